@@ -1,0 +1,2 @@
+// Lines: how the coded bits of one block lie in the places of a burst.
+pub mod laying;

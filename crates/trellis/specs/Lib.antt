@@ -1,0 +1,6 @@
+pub mod Bits
+pub mod Codes
+pub mod Met
+pub mod Parity
+pub mod Paths
+pub mod Rule
