@@ -1,4 +1,5 @@
 pub mod Bits
+pub mod Cells
 pub mod Codes
 pub mod Met
 pub mod Parity

@@ -1,9 +1,9 @@
 -- The trellis rule: which path each register keeps, and what is claimed of the one that is answered.
 use mathlib.Core.Path.{_≡_}
 use mathlib.Core.Bool.{Bool, true, false, cond}
-use mathlib.Core.List.{List, [], _∷_, _++_, reverse}
-use Prim.Native.Nat.{ℕ, zero, suc, _*_, _^_, _<_}
-use lib.ListN.{length, getD, replicate}
+use mathlib.Core.List.{List, [], _∷_, _++_, map, reverse}
+use Prim.Native.Nat.{ℕ, zero, suc}
+use lib.ListN.{length, take, replicate}
 use Rattle.std.specs.declared.option.Option.{Option}
 use Rattle.std.specs.declared.option.Option.the-variants.{Some, None}
 use Rattle.cost.specs.declared.kind.Cost.{Ghosts}
@@ -40,9 +40,9 @@ module _ {C S P : Type 0} (k : Ghosts C S P) (rows : List ℕ) (met : ℕ → Li
       (q : List Bool) → (p : List Bool) × (survivor (length q) (register memory q) ≡ Some p)
       × (k .le (cost-of k rows met p) (cost-of k rows met q) ≡ true)
 
-  -- what the decoder leaves: the rule's answer, its own cost, and bit i of its run at the head of step i's row
-  pub record Decided (memory steps : ℕ) (r : C) (record′ : List ℕ) : Type 0 where
+  -- what the decoder leaves: the rule's answer, its own cost, and its bits, the first first, at the front of the path record
+  pub record Decided (memory steps : ℕ) (cost : C) (paths : List ℕ) : Type 0 where
     pub path : List Bool
     pub answered : answer memory steps ≡ Some path
-    pub cost : r ≡ cost-of k rows met path
-    pub traced : (i : ℕ) → i < steps → getD record′ (i * 2 ^ memory) 0 ≡ bit-of (getD (reverse path) i false)
+    pub own : cost ≡ cost-of k rows met path
+    pub traced : take steps paths ≡ map bit-of (reverse path)
