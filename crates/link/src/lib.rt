@@ -1,0 +1,5 @@
+// Both ends of a link: the block format, and the receiver with its calls.
+pub mod format;
+pub mod receiver;
+pub mod refusal;
+pub mod report;

@@ -1,0 +1,11 @@
+// A receiver: the format it was opened with, and how many bursts it has counted.
+use crate::format::Format;
+use cost::kind::Cost;
+use line::laying::Line;
+use std::marker::PhantomData;
+
+pub struct Receiver<C: Cost, L: Line> {
+    format: Format<L>,
+    counted: usize,
+    kind: PhantomData<C>,
+}
