@@ -5,7 +5,7 @@ ghost use Prim.Native.Nat.{ℕ, _<_, _≤_};
 ghost use Rattle.std.specs.declared.option.Option.{Option};
 ghost use Rattle.std.specs.declared.option.Option.the-variants.{Some, None};
 
-pub trait Line {
+pub trait Line: Sized + Copy {
     // The numbers of coded bits and of burst bits, and whether the lengths suit the line.
     ghost coded: { Self → ℕ };
     ghost sent: { Self → ℕ };

@@ -6,7 +6,10 @@ ghost use Rattle.trellis.specs.Codes.{sound};
 use line::laying::Line;
 use trellis::code::Code;
 
+pub mod agree;
+
 // Message and parity bits are the protected bits of a block; `depth` bursts carry it, `burst` bits each, as the line told when it was opened.
+#[derive(Clone, Copy)]
 pub struct Format<L: Line> {
     pub(crate) code: Code,
     pub(crate) message: usize,

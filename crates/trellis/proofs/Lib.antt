@@ -1,0 +1,4 @@
+pub mod Leasts
+pub mod Reading
+pub mod Registers
+pub mod Survivors
