@@ -11,6 +11,10 @@ use Rattle.line.specs.declared.laying.Line as line
 use Rattle.trellis.specs.Met.{weighed}
 use Rattle.link.specs.declared.format.Format.{Format}
 
+-- a list with another laid over it from a place on
+abbrev pub laid-at : {S : Type 0} → ℕ → List S → List S → List S
+laid-at at samples ring = take at ring ++ (samples ++ drop (at + length samples) ring)
+
 module _ {L : Type 0} where
   -- the burst that carries place k of block b
   abbrev pub burst-of : Format L → ℕ → ℕ → ℕ
@@ -22,7 +26,7 @@ module _ {L : Type 0} where
 
   -- a ring in which burst n has been stored
   abbrev pub stored : {S : Type 0} → Format L → ℕ → List S → List S → List S
-  stored f n samples ring = take (cell f n 0) ring ++ (samples ++ drop (cell f n (length samples)) ring)
+  stored f n samples ring = laid-at (cell f n 0) samples ring
 
 module _ {S L : Type 0} (l : line.Ghosts L) where
   -- what coded place j meets, where `due k` is the sample due at burst place k

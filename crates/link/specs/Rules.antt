@@ -35,16 +35,23 @@ abbrev pub lengths-suit : ℕ → ℕ → ℕ → Bool
 lengths-suit message parity depth =
     between 1 512 message && ((eqb parity 0 || eqb parity 16) && (eqb depth 1 || eqb depth 3))
 
--- the line suits, its lengths are in range, and it lays as many coded bits as the code makes
-abbrev pub line-suits : {L : Type 0} → line.Ghosts L → Code → ℕ → ℕ → L → Bool
-line-suits l code message parity x =
-    l .suited x && (between 1 2048 (l .coded x) && (between 1 1024 (l .sent x) && eqb (l .coded x) (code .rows * steps-of code message parity)))
+-- what an opening is handed
+pub record Asked (L : Type 0) : Type 0 where
+  pub code : Code
+  pub message : ℕ
+  pub parity : ℕ
+  pub depth : ℕ
+  pub line : L
 
-abbrev pub open-rules : {C S P L : Type 0} → line.Ghosts L → Code → ℕ → ℕ → ℕ → L → List (Option (Refusal C S P))
-open-rules l code message parity depth x =
-    unless (sound code) UnsoundCode
-    ∷ unless (lengths-suit message parity depth) BadLengths
-    ∷ unless (line-suits l code message parity x) UnsuitedLine
+-- the line suits, its lengths are in range, and it lays as many coded bits as the code makes
+abbrev pub line-suits : {L : Type 0} → line.Ghosts L → L → ℕ → Bool
+line-suits l x coded = l .suited x && (between 1 2048 (l .coded x) && (between 1 1024 (l .sent x) && eqb (l .coded x) coded))
+
+abbrev pub open-rules : {C S P L : Type 0} → line.Ghosts L → Asked L → List (Option (Refusal C S P))
+open-rules l a =
+    unless (sound (a .code)) UnsoundCode
+    ∷ unless (lengths-suit (a .message) (a .parity) (a .depth)) BadLengths
+    ∷ unless (line-suits l (a .line) (a .code .rows * steps-of (a .code) (a .message) (a .parity))) UnsuitedLine
     ∷ []
 
 -- what a receiver asks of the memory lent to it

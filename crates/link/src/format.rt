@@ -9,7 +9,7 @@ use trellis::code::Code;
 pub mod agree;
 
 // Message and parity bits are the protected bits of a block; `depth` bursts carry it, `burst` bits each, as the line told when it was opened.
-#[derive(Clone, Copy)]
+#[derive(Drop)]
 pub struct Format<L: Line> {
     pub(crate) code: Code,
     pub(crate) message: usize,

@@ -3,3 +3,4 @@ pub mod format;
 pub mod receiver;
 pub mod refusal;
 pub mod report;
+mod ring;

@@ -4,6 +4,7 @@ use cost::kind::Cost;
 use line::laying::Line;
 use std::marker::PhantomData;
 
+#[derive(Drop)]
 pub struct Receiver<C: Cost, L: Line> {
     format: Format<L>,
     counted: usize,
