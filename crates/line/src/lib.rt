@@ -1,2 +1,6 @@
 // Lines: how the coded bits of one block lie in the places of a burst.
+pub mod interleaver;
 pub mod laying;
+#[cfg(test)]
+mod tests;
+pub mod unpunctured;

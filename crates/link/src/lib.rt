@@ -1,4 +1,5 @@
 // Both ends of a link: the block format, and the receiver with its calls.
+mod due;
 pub mod format;
 pub mod receiver;
 pub mod refusal;

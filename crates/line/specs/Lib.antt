@@ -1,0 +1,2 @@
+pub mod Interleaver
+pub mod Layouts
