@@ -6,6 +6,8 @@ use lib.Dec.{eqb, leb, ltb}
 use lib.ListN.{length}
 use Rattle.std.specs.declared.option.Option.{Option}
 use Rattle.std.specs.declared.option.Option.the-variants.{Some, None}
+use Rattle.std.specs.declared.result.Result.{Result}
+use Rattle.std.specs.declared.result.Result.the-variants.{Ok, Err}
 use Rattle.cost.specs.declared.kind.Cost as cost
 use Rattle.line.specs.declared.laying.Line as line
 use Rattle.trellis.specs.Codes.{sound}
@@ -23,6 +25,11 @@ first (None ∷ xs) = first xs
 -- a rule refuses where it is broken
 abbrev pub unless : {X : Type 0} → Bool → X → Option X
 unless holds refusal = cond holds None (Some refusal)
+
+-- what a check answers: the first refusal, or nothing
+abbrev pub passed : {X : Type 0} → Option X → Result (Unit {0}) X
+passed None = Ok tt
+passed (Some x) = Err x
 
 -- protected bits, and the closing zeros
 abbrev pub steps-of : Code → ℕ → ℕ → ℕ

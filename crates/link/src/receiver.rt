@@ -4,6 +4,8 @@ use cost::kind::Cost;
 use line::laying::Line;
 use std::marker::PhantomData;
 
+mod checks;
+
 #[derive(Drop)]
 pub struct Receiver<C: Cost, L: Line> {
     format: Format<L>,
