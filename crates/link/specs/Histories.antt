@@ -52,6 +52,8 @@ module _ {C S P L : Type 0} (k : cost.Ghosts C S P) (l : line.Ghosts L) where
     pub path : List Bool
     -- it is the trellis rule's answer
     pub rule : answer-due k l f (in-bursts k f bursts b) ≡ Some path
+    -- which is the path of a run of message and parity bits that zeros close
+    pub own : (run : List Bool) × (length run ≡ f .message + f .parity) × (path ≡ replicate (f .code .memory) false ++ reverse run)
     -- no run of message and parity bits costs less
     pub least : (run : List Bool) → length run ≡ f .message + f .parity →
         k .le (cost-due k l f (in-bursts k f bursts b) path) (cost-due k l f (in-bursts k f bursts b) (replicate (f .code .memory) false ++ reverse run)) ≡ true

@@ -4,6 +4,7 @@ use cost::kind::Cost;
 use line::laying::Line;
 use std::marker::PhantomData;
 
+mod calls;
 mod checks;
 
 #[derive(Drop)]

@@ -1,4 +1,9 @@
 pub mod Leasts
+pub mod Parities
 pub mod Reading
+pub mod Records
 pub mod Registers
+pub mod Rows
 pub mod Survivors
+pub mod Taps
+pub mod Tracebacks

@@ -1,7 +1,9 @@
 pub mod Bits
 pub mod Cells
 pub mod Codes
+pub mod Coding
 pub mod Met
 pub mod Parity
 pub mod Paths
 pub mod Rule
+pub mod Tracing

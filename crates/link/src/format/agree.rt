@@ -33,3 +33,21 @@ fn line_suits<L: Line>(line: &L, coded: usize) -> bool
         && in_range(1, MOST_BURST, line.burst_bits())
         && line.coded_bits() == coded
 }
+
+impl<L: Line> Format<L> {
+    pub(crate) fn agree<C: Cost>(code: Code, message: usize, parity: usize, depth: usize, line: L) -> Result<Format<L>, Refusal<C>>
+        ensures { λ r. ⌜ Agrees L·Line (record { code = code; message = message; parity = parity; depth = depth; line = line }) r ⌝ }
+    {
+        if !code.is_sound() {
+            return Err(Refusal::UnsoundCode);
+        }
+        if !lengths_suit(message, parity, depth) {
+            return Err(Refusal::BadLengths);
+        }
+        if !line_suits(&line, code.rows * (message + parity + code.memory)) {
+            return Err(Refusal::UnsuitedLine);
+        }
+        let burst = line.burst_bits();
+        Ok(Format { code, message, parity, depth, burst, line })
+    }
+}
