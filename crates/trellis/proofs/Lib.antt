@@ -1,3 +1,4 @@
+pub mod Bitwise
 pub mod Leasts
 pub mod Parities
 pub mod Reading

@@ -1,13 +1,11 @@
 -- Remainders of runs, a bit at a time.
-use mathlib.Core.Path.{_≡_, refl, sym, ap, _∙_}
+use mathlib.Core.Path.{_≡_, refl, ap, _∙_}
 use mathlib.Core.List.{List, [], _∷_, map, reverse, reverse-append}
-use mathlib.Core.Logic.{inl, inr}
-use Prim.Native.Nat.{ℕ, _+_, _-_, _*_, _%_, _^_, _<_, _≤_}
+use Prim.Native.Nat.{ℕ, _+_, _-_, _*_, _^_, _<_, _≤_}
 use native.Mathlib.Omega.{arith}
 use lib.ListN.{length, take, getD}
 use lib.Bits.{bitXor, xor-block, xor-lt}
 use Rattle.std.proofs.shelf.Lists.{map-more}
-use Rattle.std.proofs.shelf.Ways.{eqb-tells}
 use Rattle.trellis.specs.Bits.{odd, bit-of}
 use Rattle.trellis.specs.Parity.{reduced, remainder}
 
@@ -19,10 +17,6 @@ generator-clears v h k =
     let block = xor-block 16 1 1 (v - 65536) 4129 low (omega arith) in
     let small = xor-lt 16 (v - 65536) 4129 low (omega arith) in
     omega (arith, ap (λ n. bitXor n 69665) split ∙ block)
-
--- the bit of a number that tells whether it is odd is its remainder by 2
-pub bit-of-odd : (n : ℕ) → bit-of (odd n) ≡ n % 2
-bit-of-odd n = elim (eqb-tells (n % 2) 1) [ inl h ↦ ap bit-of (h .0) ∙ sym (h .1) | inr h ↦ let z : 0 ≡ n % 2 = omega (arith, h .1) in ap bit-of (h .0) ∙ z ]
 
 -- of no bits the remainder is 0
 pub remainder-none : remainder [] ≡ 0

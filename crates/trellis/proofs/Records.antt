@@ -1,11 +1,12 @@
 -- Places in a path record: row t begins at t * 2 ^ memory.
 use mathlib.Core.Path.{_≡_, ap, subst, _∙_}
-use Prim.Native.Nat.{ℕ, _+_, _-_, _*_, _/_, _%_, _^_, _<_, _≤_}
+use Prim.Native.Nat.{ℕ, suc, _+_, _-_, _*_, _/_, _%_, _^_, _<_, _≤_}
 use native.Mathlib.Omega.{arith}
 use native.Mathlib.Nat.{add-comm}
 use lib.Bits.{bitAnd, bitOr, and-mask, or-shifted-r}
 use lib.Pow.{pow-pos}
-use Rattle.std.proofs.shelf.Bits.{shl-whole, shr-below, mul-add-lt, mul-le, mod-below, pow-add}
+use Rattle.std.proofs.shelf.Bits.{shl-whole, mul-add-lt, mul-le, mod-below, pow-add}
+use Rattle.trellis.proofs.Bitwise.{half-below}
 
 -- the beginning of a row fits
 pub row-exact : (t memory : ℕ) → t ≤ 2048 → memory ≤ 4 → (t * 2 ^ memory) % 2 ^ 64 ≡ t * 2 ^ memory
@@ -21,7 +22,7 @@ row-after t memory = omega (arith, mul-le t 1 t (2 ^ memory) (omega arith) (pow-
 
 -- half of a register is a bit shorter
 half-register : (memory register : ℕ) → 1 ≤ memory → register < 2 ^ memory → register / 2 < 2 ^ (memory - 1)
-half-register memory register h k = let on : memory ≡ memory - 1 + 1 = omega arith in shr-below register (memory - 1) 1 (subst (λ n. register < 2 ^ n) on k)
+half-register memory register h k = let on : memory ≡ suc (memory - 1) = omega arith in half-below (memory - 1) register (subst (λ n. register < 2 ^ n) on k)
 
 -- the register a step back: the newest bit leaves, and the bit that was dropped comes back as the oldest
 pub register-back : (memory register mark : ℕ) → 1 ≤ memory → memory ≤ 4 → register < 2 ^ memory →

@@ -1,6 +1,6 @@
 -- Sums over taps, by the numbers that hold the taps and the window.
 use mathlib.Core.Path.{_≡_, refl, sym, ap, ap₂, subst, _∙_}
-use mathlib.Core.Bool.{Bool, true, false, not, _&&_}
+use mathlib.Core.Bool.{Bool, true, false, _&&_}
 use mathlib.Core.List.{List, [], _∷_}
 use Prim.Native.Nat.{ℕ, zero, suc, _+_, _-_, _*_, _/_, _%_, _^_, _<_, _≤_, min}
 use native.Mathlib.Omega.{arith}
@@ -10,39 +10,18 @@ use lib.Count.{ones, ones-step}
 use lib.ListN.{length, getD}
 use lib.Pow.{pow-mono}
 use mir.Val.{boolByte}
-use Rattle.std.proofs.shelf.Bits.{div-mul-add, mod-mul-add, shr-below, pow-add}
+use Rattle.std.proofs.shelf.Bits.{div-mul-add, mod-mul-add, pow-add}
 use Rattle.std.proofs.shelf.Lists.{getD-past}
-use Rattle.std.proofs.shelf.Ways.{tells}
 use Rattle.trellis.specs.Bits.{odd, xor, bit-of}
 use Rattle.trellis.specs.Codes.{summed}
 use Rattle.trellis.specs.Coding.{packed, entered}
 use Rattle.trellis.specs.Paths.{register}
-use Rattle.trellis.proofs.Parities.{bit-of-odd}
+use Rattle.trellis.proofs.Bitwise.{bit-below, bit-of-odd, byte-bit, half-below, min-bits, odd-add}
 use Rattle.trellis.proofs.Registers.{summed-same}
 
 -- no taps sum to 0
 pub summed-none : (p : List Bool) → summed 0 p ≡ false
 summed-none p = summed-same 0 0 p [] (omega arith) refl
-
-bit-below : (b : Bool) → bit-of b < 2
-bit-below true = omega arith
-bit-below false = omega arith
-
--- the lower of two bits is set where both are
-min-bits : (b t : Bool) → min (bit-of b) (bit-of t) ≡ bit-of (t && b)
-min-bits true true = refl
-min-bits true false = refl
-min-bits false true = refl
-min-bits false false = refl
-
--- one more turns odd over
-odd-more : (n : ℕ) → odd (1 + n) ≡ not (odd n)
-odd-more n = grind (arith, tells)
-
--- a bit more is a sum modulo 2
-odd-add : (b : Bool) (n : ℕ) → odd (bit-of b + n) ≡ xor b (odd n)
-odd-add true n = odd-more n
-odd-add false n = let e : 0 + n ≡ n = omega arith in ap odd e
 
 -- 0 has no ones
 ones-none : ones 0 ≡ 0
@@ -62,10 +41,6 @@ chosen-step b r taps =
     = ones-step (n * 2 + bit-of d) ∙ ap₂ (λ (x y : ℕ). x + ones y) (mod-mul-add n 2 (bit-of d) (bit-below d)) (div-mul-add n 2 (bit-of d) (bit-below d)) in
     ap (λ x. odd (ones x)) split ∙ ap odd count ∙ odd-add d (ones n)
 
--- half of a number of one bit more
-half-below : (m taps : ℕ) → taps < 2 ^ suc m → taps / 2 < 2 ^ m
-half-below m taps h = let on : suc m ≡ m + 1 = omega arith in shr-below taps m 1 (subst (λ n. taps < 2 ^ n) on h)
-
 -- what meets no bit sums to 0
 xor-false : (t : Bool) → xor (t && false) false ≡ false
 xor-false true = refl
@@ -82,7 +57,7 @@ summed-chosen (suc m) taps (b ∷ p) h =
     ap (xor (odd taps && b)) (summed-chosen m (taps / 2) p (half-below m taps h)) ∙ sym (chosen-step b (register m p) taps)
 
 -- bits write a number below the power of their count
-pub packed-below : (r : List Bool) → packed r < 2 ^ length r
+packed-below : (r : List Bool) → packed r < 2 ^ length r
 packed-below [] = omega arith
 packed-below (b ∷ r) =
     let low = bit-below b in
@@ -90,10 +65,6 @@ packed-below (b ∷ r) =
     let double = pow-add 2 (length r) 1 in
     let on : suc (length r) ≡ length r + 1 = omega arith in
     subst (λ n. packed (b ∷ r) < 2 ^ n) (sym on) (omega (arith, double))
-
-byte-bit : (b : Bool) → boolByte b ≡ bit-of b
-byte-bit true = refl
-byte-bit false = refl
 
 -- a byte of at most 7 bits takes one bit more at its low end
 pub packed-shift : (v : ℕ) (b : Bool) (r : List Bool) → v ≡ packed r → length r ≤ 7 → bitOr (v * 2 % 256) (boolByte b) ≡ packed (b ∷ r)

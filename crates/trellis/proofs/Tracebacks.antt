@@ -29,7 +29,7 @@ extended-some b None p e = let z : _≡_ {A = ℕ} 0 1 = cc in absurd (omega ari
 extended-some b (Some q) p e = let f : p ≡ b ∷ q = cc in (q, refl, f)
 
 -- where a list goes on with an element and a rest, so do its places
-pub drop-parts : (path : List Bool) (n : ℕ) (b : Bool) (q : List Bool) → drop n path ≡ b ∷ q → (n < length path) × (getD path n false ≡ b) × (drop (n + 1) path ≡ q)
+drop-parts : (path : List Bool) (n : ℕ) (b : Bool) (q : List Bool) → drop n path ≡ b ∷ q → (n < length path) × (getD path n false ≡ b) × (drop (n + 1) path ≡ q)
 drop-parts path n b q e =
     let size = length-drop n path in
     let some : length (drop n path) ≡ suc (length q) = ap length e in

@@ -15,6 +15,7 @@ impl Code {
         self.taps_within_memory() && self.taps[0] & 1 == 1
     }
 
+    // No row has a tap older than the memory.
     fn taps_within_memory(&self) -> bool
         requires rows { ⌜ now self .rows ≤ 5 ⌝ }
         requires memory { ⌜ now self .memory ≤ 4 ⌝ }

@@ -7,7 +7,8 @@ use lib.ListN.{getD}
 use lib.Seq.{take-all}
 use Rattle.trellis.specs.Bits.{odd, bit-of}
 use Rattle.trellis.specs.Parity.{reduced, remainder}
-use Rattle.trellis.proofs.Parities.{remainder-none, remainder-more, bit-of-odd}
+use Rattle.trellis.proofs.Bitwise.{bit-of-odd}
+use Rattle.trellis.proofs.Parities.{remainder-none, remainder-more}
 use Rattle.trellis.proofs.parity.remainder_of.Needs as need
 
 pub loop-b-holds : need.loop-b-holds

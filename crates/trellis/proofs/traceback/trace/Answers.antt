@@ -7,7 +7,7 @@ use lib.ListN.{length, getD, set}
 use lib.Pow.{pow-pos}
 use lib.Seq.{getD-set-other}
 use Rattle.trellis.specs.Bits.{odd, bit-of}
-use Rattle.trellis.proofs.Parities.{bit-of-odd}
+use Rattle.trellis.proofs.Bitwise.{bit-of-odd}
 use Rattle.trellis.proofs.Records.{row-exact, row-within, register-back, register-back-below}
 use Rattle.trellis.proofs.Tracebacks.{Back, back-more, back-all}
 use Rattle.trellis.proofs.traceback.trace.Needs as need
