@@ -1,2 +1,3 @@
 pub mod Interleaver
 pub mod Layouts
+pub mod Lines

@@ -1,0 +1,2 @@
+// The channels that a receiver can be opened for.
+pub mod bench;
