@@ -1,10 +1,15 @@
 pub mod Bitwise
+pub mod Growing
 pub mod Leasts
+pub mod Numbers
 pub mod Parities
+pub mod Passing
 pub mod Reading
 pub mod Records
 pub mod Registers
 pub mod Rows
+pub mod Soundness
+pub mod Stepping
 pub mod Survivors
 pub mod Taps
 pub mod Tracebacks

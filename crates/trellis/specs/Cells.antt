@@ -22,6 +22,11 @@ module _ {C S P : Type 0} (k : Ghosts C S P) (rows : List ℕ) (met : ℕ → Li
   abbrev pub kept-at : ℕ → ℕ → ℕ → Option (List Bool)
   kept-at memory t s = survivor k rows met t (bits memory s)
 
+  -- a path's cost; a register that no path has reached has none
+  abbrev pub cost-kept : Option (List Bool) → Option C
+  cost-kept None = None
+  cost-kept (Some p) = Some (cost-of k rows met p)
+
   -- a path's cost laid down; a register that no path has reached has none
   abbrev pub laid-cost : Option (List Bool) → Option P
   laid-cost None = None

@@ -7,3 +7,4 @@ pub mod Parity
 pub mod Paths
 pub mod Rule
 pub mod Tracing
+pub mod Windows

@@ -2,6 +2,8 @@
 pub mod code;
 mod code_check;
 mod coding;
+mod forward;
 pub mod parity;
 pub mod received;
 mod traceback;
+mod windows;
