@@ -1,6 +1,7 @@
 // A kind of path cost: which samples it weighs, what one adds, and how two costs compare.
 ghost use mathlib.Core.Path.{_≡_};
 ghost use mathlib.Core.Bool.{Bool, true, false};
+ghost use Rattle.cost.specs.Room.{Roomy};
 
 pub trait Cost: Sized + Copy {
     type Sample: Copy;
@@ -43,6 +44,8 @@ pub trait Cost: Sized + Copy {
     // A cost laid down is taken up as itself, and a form that no cost lays down as zero.
     law laid: { (a : Self) → lift (lay a) ≡ a };
     law unlaid: { (p : Self·Plain) → ((a : Self) → lay a ≡ p → ⊥) → lift p ≡ zero };
+    // So many costs fit in memory, one for each window of the longest register.
+    law roomy: { Roomy Self·row };
 
     fn nothing_sample() -> Self::Sample
         ensures { λ r. ⌜ r ≡ erased ⌝ };

@@ -1,20 +1,19 @@
 -- A block that is decided on the samples due in the list of bursts is told as claimed: by the rule's answer, which costs least.
 use mathlib.Core.Path.{_≡_, sym, ap, subst, _∙_}
-use mathlib.Core.Bool.{Bool, true, false, _&&_}
+use mathlib.Core.Bool.{Bool, true, false}
 use mathlib.Core.List.{List, _++_, reverse}
-use Prim.Native.Nat.{ℕ, _+_, _^_, _<_}
+use Prim.Native.Nat.{ℕ, _+_}
 use native.Mathlib.Omega.{arith}
-use lib.Dec.{leb}
 use lib.ListN.{length, drop, replicate}
 use Rattle.std.specs.declared.option.Option.the-variants.{Some}
 use Rattle.std.proofs.shelf.Lists.{length-drop, length-reverse, reverse-reverse}
-use Rattle.std.proofs.shelf.Tests.{and-parts, cond-true, cond-false, leb-true}
+use Rattle.std.proofs.shelf.Tests.{cond-true, cond-false}
 use Rattle.cost.specs.declared.kind.Cost as cost
 use Rattle.cost.proofs.Lawful.{Laws}
 use Rattle.line.specs.declared.laying.Line as line
-use Rattle.trellis.specs.Codes.{rows-of, all-below, sound}
-use Rattle.trellis.specs.declared.code.Code.{Code}
+use Rattle.trellis.specs.Codes.{rows-of}
 use Rattle.trellis.proofs.Leasts.{answer-least}
+use Rattle.trellis.proofs.Soundness.{sound-parts}
 use Rattle.trellis.proofs.Survivors.{answer-length, answer-closes}
 use Rattle.link.specs.declared.format.Format.{Format}
 use Rattle.link.specs.Calls.{right, Reply, cost-due, answer-due, Decides}
@@ -23,22 +22,14 @@ use Rattle.link.specs.Histories.{Best, Whole-bursts}
 use Rattle.link.specs.Rules.{steps}
 use Rattle.link.proofs.KeptBursts.{met-fit, due-fit}
 
--- the memory of a sound code is not empty, and no tap reaches past it
-sound-code : (c : Code) → sound c ≡ true → (0 < c .memory) × (all-below (2 ^ (c .memory + 1)) (rows-of c) ≡ true)
-sound-code c h =
-    let parts = and-parts (leb 1 (c .rows) && leb (c .rows) 5) _ h .1 in
-    let memory = and-parts (leb 1 (c .memory) && leb (c .memory) 4) _ parts .0 in
-    let taps = and-parts (leb 1 (c .memory) && leb (c .memory) 4) _ parts .1 in
-    (leb-true 1 (c .memory) (and-parts (leb 1 (c .memory)) (leb (c .memory) 4) memory .0), and-parts (all-below (2 ^ (c .memory + 1)) (rows-of c)) _ taps .0)
-
 module _ {C S P L : Type 0} {k : cost.Ghosts C S P} (laws : Laws k) (l : line.Ghosts L) (f : Format L) where
   -- where what is due is fit, no run costs less than the rule's answer
   answer-cheapest : (due : ℕ → S) → ((p : ℕ) → k .fit (due p) ≡ true) → (path : List Bool) → answer-due k l f due ≡ Some path →
       (run : List Bool) → length run ≡ f .message + f .parity →
       k .le (cost-due k l f due path) (cost-due k l f due (replicate (f .code .memory) false ++ reverse run)) ≡ true
   answer-cheapest due fit path answered run long =
-      let code = sound-code (f .code) (f .codes) in
-      let best = answer-least laws (rows-of (f .code)) (met-on l (f .line) due) (met-fit k l (f .line) due fit) (f .code .memory) (code .1) (code .0) (steps f) (omega arith) in
+      let code = sound-parts (f .code) (f .codes) in
+      let best = answer-least laws (rows-of (f .code)) (met-on l (f .line) due) (met-fit k l (f .line) due fit) (f .code .memory) (code .taps-below) (code .some-memory) (steps f) (omega arith) in
       let same : best .0 ≡ path = cc (best .1) in
       subst (λ p. k .le (cost-due k l f due p) (cost-due k l f due (replicate (f .code .memory) false ++ reverse run)) ≡ true) same
       (best .2 (reverse run) (simp length-reverse (omega arith)))

@@ -1,5 +1,8 @@
 pub mod Best
+pub mod Deciding
+pub mod Finding
 pub mod FirstRule
+pub mod Judging
 pub mod KeptBursts
 pub mod FirstOf
 pub mod Laying

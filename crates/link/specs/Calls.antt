@@ -33,6 +33,9 @@ pub record Memory (S P : Type 0) : Type 0 where
   pub paths : List ℕ
   pub block : List ℕ
 
+abbrev pub lent : {S P : Type 0} → List S → List (Option P) → List ℕ → List ℕ → Memory S P
+lent ring costs paths block = record { ring = ring; costs = costs; paths = paths; block = block }
+
 abbrev pub sizes : {S P : Type 0} → Memory S P → Sizes
 sizes m = record { ring = length (m .ring); costs = length (m .costs); paths = length (m .paths); block = length (m .block) }
 
@@ -65,6 +68,13 @@ module _ {C S P L : Type 0} (k : cost.Ghosts C S P) (l : line.Ghosts L) where
     abbrev pub report-of : ℕ → List Bool → Report C S P
     report-of b path = record { block = b; cost = cost-due path; heard = heard-of k due (f .burst) }
 
+    -- the rule's answer is found: what is told of it, and its bits at the front of the path record
+    pub record Finds (b : ℕ) (report : Report C S P) (paths : List ℕ) : Type 0 where
+      pub path : List Bool
+      pub answered : answer-due ≡ Some path
+      pub told : report ≡ report-of b path
+      pub traced : take (steps f) paths ≡ map bit-of (reverse path)
+
     -- block b is decided: the rule's answer is reported, or refused where its parity is wrong
     pub record Decides (b : ℕ) (block : List ℕ) (reply : Reply) (block′ : List ℕ) : Type 0 where
       pub path : List Bool
@@ -77,6 +87,15 @@ module _ {C S P L : Type 0} (k : cost.Ghosts C S P) (l : line.Ghosts L) where
     pub replied : reply ≡ Err x
     pub receiver : r′ ≡ r
     pub memory : m′ ≡ m
+
+  -- a burst that lies in the ring is counted, and the block whose last burst it is decided
+  pub record Counts (r : Receiver C L S P) (m : Memory S P) (reply : Reply) (r′ : Receiver C L S P) (m′ : Memory S P) : Type 0 where
+    pub format : r′ .format ≡ r .format
+    pub counted : r′ .counted ≡ r .counted + 1
+    pub waits : r .counted + 1 < r .format .depth →
+        (reply ≡ Ok (Waiting (r .counted))) × (m′ .costs ≡ m .costs) × (m′ .paths ≡ m .paths) × (m′ .block ≡ m .block)
+    pub decides : r .format .depth ≤ r .counted + 1 →
+        Decides (r .format) (in-ring k (r .format) (m .ring) (r .counted + 1 - r .format .depth)) (r .counted + 1 - r .format .depth) (m .block) reply (m′ .block)
 
   -- a burst is taken in: stored and counted, and the block whose last burst it is decided
   pub record Takes (samples : List S) (r : Receiver C L S P) (m : Memory S P) (reply : Reply) (r′ : Receiver C L S P) (m′ : Memory S P) : Type 0 where

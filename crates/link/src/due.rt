@@ -1,12 +1,17 @@
 // The samples due to one block: place k of burst n carries block n - (k mod depth), so block b finds its place k in burst b + (k mod depth).
 ghost use mathlib.Core.Path.{_≡_};
-ghost use lib.ListN.{getD};
+ghost use Prim.Native.Nat.{_≤_};
+ghost use lib.ListN.{getD, length};
 ghost use denote.Ref.{now};
 ghost use Rattle.link.specs.Due.{met-on, in-ring, heard-of};
+ghost use Rattle.link.specs.Calls.{Finds};
+ghost use Rattle.link.specs.Rules.{needed};
 ghost use Rattle.trellis.specs.Met.{weighed};
 use crate::format::Format;
+use crate::report::Report;
 use cost::kind::Cost;
 use line::laying::Line;
+use trellis::decide::decide;
 use trellis::received::Received;
 
 #[derive(Drop)]
@@ -69,5 +74,19 @@ impl<'r, 'f, C: Cost, L: Line> Received for Due<'r, 'f, C, L> as DueReceived {
             Some((place, turned)) => Some((self.sample(place), turned)),
             None => None,
         }
+    }
+}
+
+// The block that the trellis rule answers; its bits are left at the front of the path record.
+pub(crate) fn best<C: Cost, L: Line>(format: &Format<L>, ring: &[C::Sample], block: usize, costs: &mut [Option<C::Plain>], paths: &mut [u8]) -> Report<C>
+    requires costs { ⌜ needed (now format) .costs ≤ length (now costs) ⌝ }
+    requires paths { ⌜ needed (now format) .paths ≤ length (now paths) ⌝ }
+    ensures { λ r. ⌜ Finds C·Cost L·Line (now (format .entry)) (in-ring C·Cost (now (format .entry)) (now (ring .entry)) block) block r (now (paths .exit)) ⌝ }
+{
+    let due = Due::<'_, '_, C, L> { ring, format, block };
+    let heard = due.heard();
+    match decide::<C, Due<'_, '_, C, L>>(&format.code, format.steps(), &due, costs, paths) {
+        Some(cost) => Report { block, cost, heard },
+        None => unreachable(),
     }
 }

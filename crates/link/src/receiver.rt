@@ -6,6 +6,7 @@ use std::marker::PhantomData;
 
 mod calls;
 mod checks;
+mod taking;
 
 #[derive(Drop)]
 pub struct Receiver<C: Cost, L: Line> {

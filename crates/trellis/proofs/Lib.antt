@@ -1,3 +1,4 @@
+pub mod Answering
 pub mod Bitwise
 pub mod Growing
 pub mod Leasts

@@ -14,6 +14,7 @@ use Rattle.trellis.specs.declared.code.Code.{Code}
 pub record Sound (c : Code) : Type 0 where
   pub rows-few : c .rows ≤ 5
   pub some-memory : 0 < c .memory
+  pub memory-few : c .memory ≤ 4
   pub registers-few : 2 ^ c .memory ≤ 16
   pub taps-below : all-below (2 ^ (c .memory + 1)) (rows-of c) ≡ true
 
@@ -32,6 +33,7 @@ sound-parts c e =
     record {
       rows-few = leb-true (c .rows) 5 (few .1);
       some-memory = leb-true 1 (c .memory) (short .0);
+      memory-few = most;
       registers-few = omega arith;
       taps-below = and-parts (all-below (2 ^ (c .memory + 1)) (rows-of c)) (odd (getD (c .taps) 0 0)) (later .1) .0;
     }

@@ -2,6 +2,7 @@ pub mod Bits
 pub mod Cells
 pub mod Codes
 pub mod Coding
+pub mod Decoding
 pub mod Met
 pub mod Parity
 pub mod Paths

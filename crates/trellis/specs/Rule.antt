@@ -1,13 +1,13 @@
 -- The trellis rule: which path each register keeps, and what is claimed of the one that is answered.
 use mathlib.Core.Path.{_≡_}
 use mathlib.Core.Bool.{Bool, true, false, cond}
-use mathlib.Core.List.{List, [], _∷_, _++_, map, reverse}
+use mathlib.Core.List.{List, [], _∷_, _++_}
 use Prim.Native.Nat.{ℕ, zero, suc}
-use lib.ListN.{length, take, replicate}
+use lib.ListN.{length, replicate}
 use Rattle.std.specs.declared.option.Option.{Option}
 use Rattle.std.specs.declared.option.Option.the-variants.{Some, None}
 use Rattle.cost.specs.declared.kind.Cost.{Ghosts}
-use Rattle.trellis.specs.Bits.{empty, bit-of}
+use Rattle.trellis.specs.Bits.{empty}
 use Rattle.trellis.specs.Paths.{register, cost-of}
 
 -- a path with one bit more, if there is one
@@ -39,10 +39,3 @@ module _ {C S P : Type 0} (k : Ghosts C S P) (rows : List ℕ) (met : ℕ → Li
   Least memory =
       (q : List Bool) → (p : List Bool) × (survivor (length q) (register memory q) ≡ Some p)
       × (k .le (cost-of k rows met p) (cost-of k rows met q) ≡ true)
-
-  -- what the decoder leaves: the rule's answer, its own cost, and its bits, the first first, at the front of the path record
-  pub record Decided (memory steps : ℕ) (cost : C) (paths : List ℕ) : Type 0 where
-    pub path : List Bool
-    pub answered : answer memory steps ≡ Some path
-    pub own : cost ≡ cost-of k rows met path
-    pub traced : take steps paths ≡ map bit-of (reverse path)

@@ -200,7 +200,6 @@ fn step<C: Cost, H: Received<Sample = C::Sample>>(
     table: &[bool],
     t: usize,
     heard: &H,
-    costs: &mut [C],
     old: &[Option<C::Plain>],
     new: &mut [Option<C::Plain>],
     paths: &mut [u8],
@@ -208,13 +207,14 @@ fn step<C: Cost, H: Received<Sample = C::Sample>>(
     requires sound { ⌜ sound (now code) ≡ true ⌝ }
     requires few { ⌜ t < 2048 ⌝ }
     requires coded { ⌜ length (now table) ≡ 160 ⌝ ∗ ⌜ Coded (rows-of (now code)) (now table) ⌝ }
-    requires windows { ⌜ length (now costs) ≡ 32 ⌝ }
     requires room { ⌜ length (now old) ≡ 2 ^ now code .memory ⌝ ∗ ⌜ length (now new) ≡ 2 ^ now code .memory ⌝ ∗ ⌜ t * 2 ^ now code .memory + 2 ^ now code .memory ≤ length (now paths) ⌝ }
     requires cells { ⌜ Cells C·Cost (rows-of (now code)) (read C·Cost (H·Received .met (now heard))) (now code .memory) t (now old) ⌝ }
     ensures cells { λ _. ⌜ Cells C·Cost (rows-of (now (code .entry))) (read C·Cost (H·Received .met (now (heard .entry)))) (now (code .entry) .memory) (suc t) (now (new .exit)) ⌝ }
     ensures marks { λ _. ⌜ ((s : ℕ) → s < 2 ^ now (code .entry) .memory → Marked (now (code .entry) .memory) (kept-at C·Cost (rows-of (now (code .entry))) (read C·Cost (H·Received .met (now (heard .entry)))) (now (code .entry) .memory)) (now (paths .exit)) t s) ⌝ }
     ensures below { λ _. ⌜ Same-below (t * 2 ^ now (code .entry) .memory) (now (paths .entry)) (now (paths .exit)) ⌝ }
 {
+    let mut windows = [C::free(); 32];
+    let costs: &mut [C] = &mut windows;
     let whole = spread::<C>(old, costs);
     grow_rows::<C, H>(costs, 2 * old.len(), code, table, t, heard);
     meet::<C>(whole, old, costs, new, paths, t * old.len());
@@ -244,19 +244,16 @@ fn cost_in<C: Cost>(cell: Option<C::Plain>) -> Option<C>
     }
 }
 
-// All the steps of a block. The two rows of cells are the halves of the lent memory, and change roles with each step;
-// the windows are lent too, since only a lent slice is known to fit in memory at every kind of cost.
+// All the steps of a block. The two rows of cells are the halves of the lent memory, and change roles with each step.
 pub(crate) fn forward<C: Cost, H: Received<Sample = C::Sample>>(
     code: &Code,
     steps: usize,
     heard: &H,
-    windows: &mut [C],
     cells: &mut [Option<C::Plain>],
     paths: &mut [u8],
 ) -> Option<C>
     requires sound { ⌜ sound (now code) ≡ true ⌝ }
     requires few { ⌜ steps ≤ 2048 ⌝ }
-    requires windows { ⌜ length (now windows) ≡ 32 ⌝ }
     requires cells { ⌜ length (now cells) ≡ 2 * 2 ^ now code .memory ⌝ }
     requires paths { ⌜ length (now paths) ≡ steps * 2 ^ now code .memory ⌝ }
     ensures marks { λ _. ⌜ ((t s : ℕ) → t < steps → s < 2 ^ now (code .entry) .memory → Marked (now (code .entry) .memory) (kept-at C·Cost (rows-of (now (code .entry))) (read C·Cost (H·Received .met (now (heard .entry)))) (now (code .entry) .memory)) (now (paths .exit)) t s) ⌝ }
@@ -268,9 +265,9 @@ pub(crate) fn forward<C: Cost, H: Received<Sample = C::Sample>>(
     start::<C>(first);
     for t in 0..steps {
         if t % 2 == 0 {
-            step::<C, H>(code, &table, t, heard, windows, first, second, paths);
+            step::<C, H>(code, &table, t, heard, first, second, paths);
         } else {
-            step::<C, H>(code, &table, t, heard, windows, second, first, paths);
+            step::<C, H>(code, &table, t, heard, second, first, paths);
         }
     }
     let last = if steps % 2 == 0 { first[0] } else { second[0] };

@@ -2,6 +2,7 @@
 pub mod code;
 mod code_check;
 mod coding;
+pub mod decide;
 mod forward;
 pub mod parity;
 pub mod received;

@@ -44,7 +44,6 @@ step-requires g c κs =
       sound = c .pre .sound;
       few = omega arith;
       coded = (search needs, c .coded-bits-table .ensures);
-      windows = omega arith;
       room = (omega arith, (omega arith, row-fits m (c .args .steps) t early (omega arith)));
       cells = subst (Cells k rows met m t) (turn-even t (c .loop-t .first) (c .loop-t .second) (c .if-t-eq0 .taken)) (c .loop-t .inv .0);
     }
@@ -62,7 +61,6 @@ step-requires-else-t-eq0 g c κs =
       sound = c .pre .sound;
       few = omega arith;
       coded = (search needs, c .coded-bits-table .ensures);
-      windows = omega arith;
       room = (omega arith, (omega arith, row-fits m (c .args .steps) t early (omega arith)));
       cells = subst (Cells k rows met m t) (turn-odd t (c .loop-t .first) (c .loop-t .second) (c .if-t-eq0 .left)) (c .loop-t .inv .0);
     }

@@ -1,6 +1,7 @@
 use mathlib.Core.Path.{_≡_, ap, subst}
 use Prim.Native.Nat.{_*_, _^_}
 use native.Mathlib.Omega.{arith}
+use borrow.Author.Needs.{needs}
 use lib.ListN.{length}
 use Rattle.trellis.specs.Codes.{rows-of}
 use Rattle.trellis.specs.Met.{read}
@@ -11,7 +12,7 @@ use Rattle.trellis.proofs.forward.step.Needs as need
 
 pub spread-whole-requires : need.spread-whole-requires
 spread-whole-requires g c κs =
-    let h = sound-parts (c .args .code .now) (c .pre .sound) .registers-few in record { few = omega arith; room = c .pre .windows }
+    let h = sound-parts (c .args .code .now) (c .pre .sound) .registers-few in record { few = omega arith; room = search needs }
 
 pub grow-rows-requires : need.grow-rows-requires
 grow-rows-requires g c κs =
