@@ -16,9 +16,13 @@ pub const CODE: Code = Code {
     taps: [0b111, 0b101, 0, 0, 0],
     memory: 2,
 };
+
 pub const MESSAGE: usize = 6;
+
 pub const PARITY: usize = 0;
+
 pub const DEPTH: usize = 1;
+
 pub const LINE: BenchLine = Interleaved(Unpunctured { bits: 16 });
 
 // A receiver for the bench, which always opens.

@@ -8,8 +8,11 @@ ghost use Rattle.std.specs.declared.option.Option.the-variants.{Some, None};
 pub trait Line: Sized + Copy {
     // The numbers of coded bits and of burst bits, and whether the lengths suit the line.
     ghost coded: { Self → ℕ };
+
     ghost sent: { Self → ℕ };
+
     ghost suited: { Self → Bool };
+
     ghost place: { Self → ℕ → Option (ℕ × Bool) };
 
     // Law 1: every burst place answered is one of the burst's.

@@ -53,12 +53,12 @@ module _ {C S P L : Type 0} {k : cost.Ghosts C S P} (laws : Laws k) (l : line.Gh
       let met = met-on l (f .line) (in-ring k f ring b) in
       let same : read k met ≡ met = met-same (read-same k met (met-fit k l (f .line) (in-ring k f ring b) (in-ring-fit ring b))) in
       let e : Answered k (rows-of (f .code)) met (f .code .memory) (steps f) decided paths =
-        subst (λ m. Answered k (rows-of (f .code)) m (f .code .memory) (steps f) decided paths) same
-        (subst (λ t. Answered k (rows-of (f .code)) (read k met) (f .code .memory) t decided paths) steps-are d) in
+      subst (λ m. Answered k (rows-of (f .code)) m (f .code .memory) (steps f) decided paths) same
+      (subst (λ t. Answered k (rows-of (f .code)) (read k met) (f .code .memory) t decided paths) steps-are d) in
       let own : cost ≡ cost-of k (rows-of (f .code)) met (e .path) = cc (e .own) in
       record {
-    path = e .path;
-    answered = e .answered;
-    told = λ i. record { block = b; cost = own i; heard = h i };
-    traced = e .traced;
-  }
+        path = e .path;
+        answered = e .answered;
+        told = λ i. record { block = b; cost = own i; heard = h i };
+        traced = e .traced;
+      }

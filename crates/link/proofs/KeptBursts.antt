@@ -58,15 +58,15 @@ module _ {C S P L : Type 0} (k : cost.Ghosts C S P) (l : line.Ghosts L) (f : For
       last-more : (i p : ℕ) → i < length bursts + 1 → length bursts + 1 ≤ i + f .depth → p < f .burst →
           getD (stored f (length bursts) samples ring) (cell f i p) (k .erased) ≡ getD (getD (bursts ++ (samples ∷ [])) i []) p (k .erased)
       last-more i p h near inside = elim (cases-eq i (length bursts)) [
-            inl e ↦
-                ap (λ j. getD (stored f (length bursts) samples ring) (cell f j p) (k .erased)) e
-                ∙ stored-own f (length bursts) samples ring (k .erased) (new .whole) (new .enough) p inside
-                ∙ ap (λ burst. getD burst p (k .erased)) (sym (getD-push bursts samples [] i (sym e)))
-          | inr ne ↦
-                stored-other f (length bursts) samples ring (k .erased) (new .whole) (new .enough) i p (omega arith) (omega arith) inside
-                ∙ old .last i p (omega arith) (omega arith) inside
-                ∙ ap (λ burst. getD burst p (k .erased)) (sym (getD-append-left bursts (samples ∷ []) [] i (omega arith)))
-        ]
+        | inl e ↦
+            ap (λ j. getD (stored f (length bursts) samples ring) (cell f j p) (k .erased)) e
+            ∙ stored-own f (length bursts) samples ring (k .erased) (new .whole) (new .enough) p inside
+            ∙ ap (λ burst. getD burst p (k .erased)) (sym (getD-push bursts samples [] i (sym e)))
+        | inr ne ↦
+            stored-other f (length bursts) samples ring (k .erased) (new .whole) (new .enough) i p (omega arith) (omega arith) inside
+            ∙ old .last i p (omega arith) (omega arith) inside
+            ∙ ap (λ burst. getD burst p (k .erased)) (sym (getD-append-left bursts (samples ∷ []) [] i (omega arith)))
+      ]
 
   -- what is due to a block whose last burst is the last one counted is read in the ring as in the list of bursts
   pub due-same : (ring : List S) (bursts : List (List S)) → Keeps ring bursts → (b : ℕ) → b + f .depth ≡ length bursts →
@@ -99,6 +99,6 @@ module _ {C S P L : Type 0} (k : cost.Ghosts C S P) (l : line.Ghosts L) (f : For
 
       among : burst-of f b p < length bursts → k .fit (in-bursts k f bursts b p) ≡ true
       among h = elim (cases-lt p (length (getD bursts (burst-of f b p) []))) [
-            inl q ↦ all-getD (λ s. k .fit s ≡ true) (getD bursts (burst-of f b p) []) p (k .erased) q (all-getD Whole bursts (burst-of f b p) [] h whole .1)
-          | inr q ↦ ap (k .fit) (getD-past (getD bursts (burst-of f b p) []) p (k .erased) q) ∙ laws .erased-fit
-        ]
+        | inl q ↦ all-getD (λ s. k .fit s ≡ true) (getD bursts (burst-of f b p) []) p (k .erased) q (all-getD Whole bursts (burst-of f b p) [] h whole .1)
+        | inr q ↦ ap (k .fit) (getD-past (getD bursts (burst-of f b p) []) p (k .erased) q) ∙ laws .erased-fit
+      ]

@@ -51,9 +51,9 @@ module _ {C S P L : Type 0} (k : cost.Ghosts C S P) (l : line.Ghosts L) where
     where
       decided : f .depth ≤ n + 1 → Decides k l f (in-ring k f (m′ .ring) (n + 1 - f .depth)) (n + 1 - f .depth) (m .block) reply (m′ .block) → Replied f n reply
       decided h d = let report = report-of k l f (in-ring k f (m′ .ring) (n + 1 - f .depth)) (n + 1 - f .depth) (d .path) in elim (cases-bool (right f (d .path))) [
-            inl e ↦ told-block report (omega arith) (d .replied ∙ cond-true _ _ _ e)
-          | inr e ↦ told-wrong report (omega arith) (d .replied ∙ cond-false _ _ _ e)
-        ]
+        | inl e ↦ told-block report (omega arith) (d .replied ∙ cond-true _ _ _ e)
+        | inr e ↦ told-wrong report (omega arith) (d .replied ∙ cond-false _ _ _ e)
+      ]
 
   -- each of them counts the burst
   pub replied-counts : (f : Format L) (n : ℕ) (reply : Reply k l) → Replied f n reply → counts k l reply ≡ true

@@ -16,9 +16,9 @@ use Rattle.link.proofs.Laying.{burst-within}
 -- two numbers that differ by less than d leave different remainders by d
 remainders-differ : (d i n : ℕ) → i < n → n < i + d → i % d ≡ n % d → ⊥
 remainders-differ d i n h near e = elim (cases-lt (i / d) (n / d)) [
-      inl more ↦ let far = mul-le (i / d + 1) d (n / d) d (omega arith) (omega arith) in omega (arith, own-i, own-n, far, add-mul (i / d) 1 d, e)
-    | inr less ↦ let below = mul-le (n / d) d (i / d) d less (omega arith) in omega (arith, own-i, own-n, below, e)
-  ]
+  | inl more ↦ let far = mul-le (i / d + 1) d (n / d) d (omega arith) (omega arith) in omega (arith, own-i, own-n, far, add-mul (i / d) 1 d, e)
+  | inr less ↦ let below = mul-le (n / d) d (i / d) d less (omega arith) in omega (arith, own-i, own-n, below, e)
+]
   where
     own-i : i / d * d + i % d ≡ i
     own-i = div-add-mod' i d
@@ -61,11 +61,11 @@ module _ {S L : Type 0} (f : Format L) (n : ℕ) (samples ring : List S) (d : S)
   -- and the cells of another of the last `depth` bursts are left
   pub stored-other : (i p : ℕ) → i < n → n < i + f .depth → p < f .burst → getD (stored f n samples ring) (cell f i p) d ≡ getD ring (cell f i p) d
   stored-other i p h near inside = elim (cases-order (i % f .depth) (n % f .depth)) [
-        inl e ↦ absurd (remainders-differ (f .depth) i n h near e)
-      | inr (inl before) ↦
-            let up = mul-le (i % f .depth + 1) (f .burst) (n % f .depth) (f .burst) (omega arith) (omega arith) in
-            laid-before ring samples (cell f n 0) d cell-within (cell f i p) (omega (arith, up, add-mul (i % f .depth) 1 (f .burst)))
-      | inr (inr after) ↦
-            let up = mul-le (n % f .depth + 1) (f .burst) (i % f .depth) (f .burst) (omega arith) (omega arith) in
-            laid-after ring samples (cell f n 0) d cell-within (cell f i p) (omega (arith, up, add-mul (n % f .depth) 1 (f .burst)))
-    ]
+    | inl e ↦ absurd (remainders-differ (f .depth) i n h near e)
+    | inr (inl before) ↦
+        let up = mul-le (i % f .depth + 1) (f .burst) (n % f .depth) (f .burst) (omega arith) (omega arith) in
+        laid-before ring samples (cell f n 0) d cell-within (cell f i p) (omega (arith, up, add-mul (i % f .depth) 1 (f .burst)))
+    | inr (inr after) ↦
+        let up = mul-le (n % f .depth + 1) (f .burst) (i % f .depth) (f .burst) (omega arith) (omega arith) in
+        laid-after ring samples (cell f n 0) d cell-within (cell f i p) (omega (arith, up, add-mul (n % f .depth) 1 (f .burst)))
+  ]

@@ -86,9 +86,9 @@ module _ {C S P L : Type 0} {k : cost.Ghosts C S P} (laws : Laws k) (l : line.Gh
       waits = λ e. absurd (let z : _≡_ {A = ℕ} 0 1 = cc in omega arith);
       decides = λ e. absurd (let z : _≡_ {A = ℕ} 0 1 = cc in omega arith);
       timely = λ report told-as. absurd (elim told-as [
-            inl e ↦ let z : _≡_ {A = ℕ} 0 1 = cc in omega arith
-          | inr e ↦ let same : x ≡ WrongParity report = cc in both-ways (eqb (told x .number) 11) (guards .uncounted) (ap (λ y. eqb (told y .number) 11) same)
-        ]);
+        | inl e ↦ let z : _≡_ {A = ℕ} 0 1 = cc in omega arith
+        | inr e ↦ let same : x ≡ WrongParity report = cc in both-ways (eqb (told x .number) 11) (guards .uncounted) (ap (λ y. eqb (told y .number) 11) same)
+      ]);
     }
     judged-sound None guards takes = record {
       refused = λ y e. absurd (let z : _≡_ {A = ℕ} 0 1 = cc in omega arith);

@@ -78,12 +78,22 @@ impl<'r, 'f, C: Cost, L: Line> Received for Due<'r, 'f, C, L> as DueReceived {
 }
 
 // The block that the trellis rule answers; its bits are left at the front of the path record.
-pub(crate) fn best<C: Cost, L: Line>(format: &Format<L>, ring: &[C::Sample], block: usize, costs: &mut [Option<C::Plain>], paths: &mut [u8]) -> Report<C>
+pub(crate) fn best<C: Cost, L: Line>(
+    format: &Format<L>,
+    ring: &[C::Sample],
+    block: usize,
+    costs: &mut [Option<C::Plain>],
+    paths: &mut [u8],
+) -> Report<C>
     requires costs { ⌜ needed (now format) .costs ≤ length (now costs) ⌝ }
     requires paths { ⌜ needed (now format) .paths ≤ length (now paths) ⌝ }
     ensures { λ r. ⌜ Finds C·Cost L·Line (now (format .entry)) (in-ring C·Cost (now (format .entry)) (now (ring .entry)) block) block r (now (paths .exit)) ⌝ }
 {
-    let due = Due::<'_, '_, C, L> { ring, format, block };
+    let due = Due::<'_, '_, C, L> {
+        ring,
+        format,
+        block,
+    };
     let heard = due.heard();
     match decide::<C, Due<'_, '_, C, L>>(&format.code, format.steps(), &due, costs, paths) {
         Some(cost) => Report { block, cost, heard },

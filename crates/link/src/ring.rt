@@ -43,7 +43,11 @@ impl<'a, S: Copy> Ring<'a, S> {
         ensures depth { λ r. ⌜ r .depth ≡ depth ⌝ }
         ensures burst { λ r. ⌜ r .burst ≡ burst ⌝ }
     {
-        Ring { cells, depth, burst }
+        Ring {
+            cells,
+            depth,
+            burst,
+        }
     }
 
     // The burst's samples, in its cells.

@@ -33,7 +33,13 @@ fn is_ready(code: &Code, steps: usize, cells: usize, paths: usize) -> bool
 }
 
 // Forward through all the steps, and back along the path that the empty register kept.
-fn answer<C: Cost, H: Received<Sample = C::Sample>>(code: &Code, steps: usize, heard: &H, cells: &mut [Option<C::Plain>], paths: &mut [u8]) -> Option<C>
+fn answer<C: Cost, H: Received<Sample = C::Sample>>(
+    code: &Code,
+    steps: usize,
+    heard: &H,
+    cells: &mut [Option<C::Plain>],
+    paths: &mut [u8],
+) -> Option<C>
     requires sound { ⌜ sound (now code) ≡ true ⌝ }
     requires steps { ⌜ now code .memory ≤ steps ⌝ ∗ ⌜ steps ≤ 2048 ⌝ }
     requires cells { ⌜ length (now cells) ≡ 2 * 2 ^ now code .memory ⌝ }
@@ -46,7 +52,13 @@ fn answer<C: Cost, H: Received<Sample = C::Sample>>(code: &Code, steps: usize, h
 }
 
 // The cost of the answer on what was heard, its bits left at the front of the path record; nothing where the decoder cannot run.
-pub fn decide<C: Cost, H: Received<Sample = C::Sample>>(code: &Code, steps: usize, heard: &H, cells: &mut [Option<C::Plain>], paths: &mut [u8]) -> Option<C>
+pub fn decide<C: Cost, H: Received<Sample = C::Sample>>(
+    code: &Code,
+    steps: usize,
+    heard: &H,
+    cells: &mut [Option<C::Plain>],
+    paths: &mut [u8],
+) -> Option<C>
     ensures decided { λ r. ⌜ (ready (now (code .entry)) steps (length (now (cells .entry))) (length (now (paths .entry))) ≡ true → Answered C·Cost (rows-of (now (code .entry))) (read C·Cost (H·Received .met (now (heard .entry)))) (now (code .entry) .memory) steps r (now (paths .exit))) ⌝ }
     ensures refused { λ r. ⌜ (ready (now (code .entry)) steps (length (now (cells .entry))) (length (now (paths .entry))) ≡ false → (r ≡ None) × (now (cells .exit) ≡ now (cells .entry)) × (now (paths .exit) ≡ now (paths .entry))) ⌝ }
 {

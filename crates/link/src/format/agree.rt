@@ -10,7 +10,9 @@ use line::laying::Line;
 use trellis::code::Code;
 
 const MOST_MESSAGE: usize = 512;
+
 const MOST_CODED: usize = 2048;
+
 const MOST_BURST: usize = 1024;
 
 fn in_range(low: usize, high: usize, n: usize) -> bool
@@ -22,7 +24,9 @@ fn in_range(low: usize, high: usize, n: usize) -> bool
 fn lengths_suit(message: usize, parity: usize, depth: usize) -> bool
     ensures { λ r. ⌜ r ≡ lengths-suit message parity depth ⌝ }
 {
-    in_range(1, MOST_MESSAGE, message) && (parity == 0 || parity == 16) && (depth == 1 || depth == 3)
+    in_range(1, MOST_MESSAGE, message)
+        && (parity == 0 || parity == 16)
+        && (depth == 1 || depth == 3)
 }
 
 fn line_suits<L: Line>(line: &L, coded: usize) -> bool
@@ -35,7 +39,13 @@ fn line_suits<L: Line>(line: &L, coded: usize) -> bool
 }
 
 impl<L: Line> Format<L> {
-    pub(crate) fn agree<C: Cost>(code: Code, message: usize, parity: usize, depth: usize, line: L) -> Result<Format<L>, Refusal<C>>
+    pub(crate) fn agree<C: Cost>(
+        code: Code,
+        message: usize,
+        parity: usize,
+        depth: usize,
+        line: L,
+    ) -> Result<Format<L>, Refusal<C>>
         ensures { λ r. ⌜ Agrees L·Line (record { code = code; message = message; parity = parity; depth = depth; line = line }) r ⌝ }
     {
         if !code.is_sound() {
@@ -48,6 +58,13 @@ impl<L: Line> Format<L> {
             return Err(Refusal::UnsuitedLine);
         }
         let burst = line.burst_bits();
-        Ok(Format { code, message, parity, depth, burst, line })
+        Ok(Format {
+            code,
+            message,
+            parity,
+            depth,
+            burst,
+            line,
+        })
     }
 }

@@ -37,15 +37,32 @@ fn store_same<S: Copy, L: Line>(format: &Format<L>, n: usize, sample: S, ring: &
 impl<C: Cost, L: Line> Receiver<C, L> {
     // Opens a receiver for blocks of this format. Of what it opens every history is sound: each block told is the
     // trellis rule's answer on the bursts counted, and no other run of message and parity bits costs less.
-    pub fn open(code: Code, message: usize, parity: usize, depth: usize, line: L) -> Result<Receiver<C, L>, Refusal<C>>
+    pub fn open(
+        code: Code,
+        message: usize,
+        parity: usize,
+        depth: usize,
+        line: L,
+    ) -> Result<Receiver<C, L>, Refusal<C>>
         ensures { λ r. ⌜ Opens C·Cost L·Line (record { code = code; message = message; parity = parity; depth = depth; line = line }) r ⌝ }
     {
         let format = Format::<L>::agree::<C>(code, message, parity, depth, line)?;
-        Ok(Receiver { format, counted: 0, kind: PhantomData })
+        Ok(Receiver {
+            format,
+            counted: 0,
+            kind: PhantomData,
+        })
     }
 
     // Takes in one burst, a sample for each of its places.
-    pub fn hear(&mut self, samples: &[C::Sample], ring: &mut [C::Sample], costs: &mut [Option<C::Plain>], paths: &mut [u8], block: &mut [u8]) -> Result<Answer<C>, Refusal<C>>
+    pub fn hear(
+        &mut self,
+        samples: &[C::Sample],
+        ring: &mut [C::Sample],
+        costs: &mut [Option<C::Plain>],
+        paths: &mut [u8],
+        block: &mut [u8],
+    ) -> Result<Answer<C>, Refusal<C>>
         ensures { λ r. ⌜ Hears C·Cost L·Line (now (samples .entry)) (now (self .entry)) (lent (now (ring .entry)) (now (costs .entry)) (now (paths .entry)) (now (block .entry))) r (now (self .exit)) (lent (now (ring .exit)) (now (costs .exit)) (now (paths .exit)) (now (block .exit))) ⌝ }
     {
         self.check_hear(samples, ring.len(), costs.len(), paths.len(), block.len())?;
@@ -54,7 +71,13 @@ impl<C: Cost, L: Line> Receiver<C, L> {
     }
 
     // Counts a burst that never came.
-    pub fn miss(&mut self, ring: &mut [C::Sample], costs: &mut [Option<C::Plain>], paths: &mut [u8], block: &mut [u8]) -> Result<Answer<C>, Refusal<C>>
+    pub fn miss(
+        &mut self,
+        ring: &mut [C::Sample],
+        costs: &mut [Option<C::Plain>],
+        paths: &mut [u8],
+        block: &mut [u8],
+    ) -> Result<Answer<C>, Refusal<C>>
         ensures { λ r. ⌜ Misses C·Cost L·Line (now (self .entry)) (lent (now (ring .entry)) (now (costs .entry)) (now (paths .entry)) (now (block .entry))) r (now (self .exit)) (lent (now (ring .exit)) (now (costs .exit)) (now (paths .exit)) (now (block .exit))) ⌝ }
     {
         self.check_miss(ring.len(), costs.len(), paths.len(), block.len())?;

@@ -60,7 +60,13 @@ fn check_fit<C: Cost>(samples: &[C::Sample]) -> Result<(), Refusal<C>>
 
 impl<C: Cost, L: Line> Receiver<C, L> {
     // The memory lent, in the order ring, costs, path record, block.
-    fn check_memory(&self, ring: usize, costs: usize, paths: usize, block: usize) -> Result<(), Refusal<C>>
+    fn check_memory(
+        &self,
+        ring: usize,
+        costs: usize,
+        paths: usize,
+        block: usize,
+    ) -> Result<(), Refusal<C>>
         ensures { λ r. ⌜ r ≡ passed (first (memory-rules (now (self .entry) .format) (record { ring = ring; costs = costs; paths = paths; block = block }))) ⌝ }
     {
         let registers = self.format.registers();
@@ -70,19 +76,34 @@ impl<C: Cost, L: Line> Receiver<C, L> {
         check_size::<C>(self.format.message, block)
     }
 
-    pub(super) fn check_miss(&self, ring: usize, costs: usize, paths: usize, block: usize) -> Result<(), Refusal<C>>
+    pub(super) fn check_miss(
+        &self,
+        ring: usize,
+        costs: usize,
+        paths: usize,
+        block: usize,
+    ) -> Result<(), Refusal<C>>
         ensures { λ r. ⌜ r ≡ passed (first (miss-rules (now (self .entry) .format) (record { ring = ring; costs = costs; paths = paths; block = block }) (now (self .entry) .counted))) ⌝ }
     {
         self.check_memory(ring, costs, paths, block)?;
         check_count::<C>(self.counted)
     }
 
-    pub(super) fn check_hear(&self, samples: &[C::Sample], ring: usize, costs: usize, paths: usize, block: usize) -> Result<(), Refusal<C>>
+    pub(super) fn check_hear(
+        &self,
+        samples: &[C::Sample],
+        ring: usize,
+        costs: usize,
+        paths: usize,
+        block: usize,
+    ) -> Result<(), Refusal<C>>
         ensures { λ r. ⌜ r ≡ passed (first (hear-rules C·Cost (now (self .entry) .format) (record { ring = ring; costs = costs; paths = paths; block = block }) (now (self .entry) .counted) (now (samples .entry)))) ⌝ }
     {
         self.check_miss(ring, costs, paths, block)?;
         if samples.len() != self.format.burst {
-            return Err(Refusal::WrongCount { given: samples.len() });
+            return Err(Refusal::WrongCount {
+                given: samples.len(),
+            });
         }
         check_fit::<C>(samples)
     }

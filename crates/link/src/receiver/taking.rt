@@ -38,7 +38,14 @@ fn write_message(paths: &[u8], message: usize, block: &mut [u8])
 
 impl<C: Cost, L: Line> Receiver<C, L> {
     // Block `number` by the trellis rule; its message is written only where its parity is right.
-    fn decide(&self, number: usize, ring: &[C::Sample], costs: &mut [Option<C::Plain>], paths: &mut [u8], block: &mut [u8]) -> Result<Answer<C>, Refusal<C>>
+    fn decide(
+        &self,
+        number: usize,
+        ring: &[C::Sample],
+        costs: &mut [Option<C::Plain>],
+        paths: &mut [u8],
+        block: &mut [u8],
+    ) -> Result<Answer<C>, Refusal<C>>
         requires costs { ⌜ needed (now self .format) .costs ≤ length (now costs) ⌝ }
         requires paths { ⌜ needed (now self .format) .paths ≤ length (now paths) ⌝ }
         requires block { ⌜ needed (now self .format) .block ≤ length (now block) ⌝ }
@@ -53,7 +60,13 @@ impl<C: Cost, L: Line> Receiver<C, L> {
     }
 
     // Counts the burst that was stored, and decides the block that it ends.
-    pub(super) fn count(&mut self, ring: &[C::Sample], costs: &mut [Option<C::Plain>], paths: &mut [u8], block: &mut [u8]) -> Result<Answer<C>, Refusal<C>>
+    pub(super) fn count(
+        &mut self,
+        ring: &[C::Sample],
+        costs: &mut [Option<C::Plain>],
+        paths: &mut [u8],
+        block: &mut [u8],
+    ) -> Result<Answer<C>, Refusal<C>>
         requires costs { ⌜ needed (now self .format) .costs ≤ length (now costs) ⌝ }
         requires paths { ⌜ needed (now self .format) .paths ≤ length (now paths) ⌝ }
         requires block { ⌜ needed (now self .format) .block ≤ length (now block) ⌝ }

@@ -12,6 +12,6 @@ returns g c =
     let costs = length (c .args .costs .now) in
     let paths = length (c .args .paths .now) in
     let r : ready (f .code) (c .steps .result) costs paths ≡ true =
-      ap (λ n. ready (f .code) n costs paths) (c .steps .ensures) ∙ ready-for f costs paths (c .pre .costs) (c .pre .paths) in
+    ap (λ n. ready (f .code) n costs paths) (c .steps .ensures) ∙ ready-for f costs paths (c .pre .costs) (c .pre .paths) in
     found (laws-of (g .C·Cost·met)) (g .L·Line) f (c .args .ring .now) (c .args .block) (c .in-Some .cost) (c .decide .result) (c .heard-heard .result) (c .steps .result) (c .decide .last .paths)
     (c .in-Some .is) (c .steps .ensures) (c .decide .ensures .decided r) (c .heard-heard .ensures)

@@ -19,7 +19,7 @@ returns g c =
     let part : steps * c .registers-registers .result ≡ steps * 2 ^ m = ap (λ n. steps * n) (c .registers-registers .ensures) in
     let whole = ready-paths code steps cells (length paths) (sym (c .if-not-is-ready .ensures tt)) in
     let room : steps ≤ length (c .answer .last .paths) =
-      omega (arith, c .answer .kept .paths, length-take (steps * c .registers-registers .result - 0) paths, part, whole, steps-within m steps) in
+    omega (arith, c .answer .kept .paths, length-take (steps * c .registers-registers .result - 0) paths, part, whole, steps-within m steps) in
     record {
       decided = λ _. answered-longer (g .C·Cost) (rows-of code) (read (g .C·Cost) (g .H·Received .met (c .args .heard .now))) m steps
           (c .answer .result) (c .answer .last .paths) _ room (c .answer .ensures);

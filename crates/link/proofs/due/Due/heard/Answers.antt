@@ -19,12 +19,12 @@ loop-place-again g c =
     let s = c .args .self .now in
     let due = in-ring k (s .format .now) (s .ring .now) (s .block) in
     let tells : (b : Bool) → c .is-silent .result ≡ b → k .silent (due (c .loop-place .place)) ≡ b =
-      λ b e. sym (c .is-silent .ensures ∙ ap (k .silent) (c .sample .ensures)) ∙ e in
+    λ b e. sym (c .is-silent .ensures ∙ ap (k .silent) (c .sample .ensures)) ∙ e in
     elim (c .if-not-is-silent .came) [
-      then-not-is-silent w ↦
-        let e = heard-more k due (c .loop-place .place) (c .loop-place .count) false (tells false (w .if-not-is-silent .taken)) (c .loop-place .inv .0) in
-        (w .count-is ∙ e, omega (arith, w .count-is))
+      | then-not-is-silent w ↦
+          let e = heard-more k due (c .loop-place .place) (c .loop-place .count) false (tells false (w .if-not-is-silent .taken)) (c .loop-place .inv .0) in
+          (w .count-is ∙ e, omega (arith, w .count-is))
       | else-not-is-silent w ↦
-        let e = heard-more k due (c .loop-place .place) (c .loop-place .count) true (tells true (w .if-not-is-silent .left)) (c .loop-place .inv .0) in
-        (omega (arith, w .count-is, e), omega (arith, w .count-is))
+          let e = heard-more k due (c .loop-place .place) (c .loop-place .count) true (tells true (w .if-not-is-silent .left)) (c .loop-place .inv .0) in
+          (omega (arith, w .count-is, e), omega (arith, w .count-is))
     ]

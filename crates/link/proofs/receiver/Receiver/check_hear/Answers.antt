@@ -15,6 +15,6 @@ returns-in-Break-check-miss g c =
     let ss = c .args .samples .now in
     let p = err-from-errBy (c .from-residual .result) (c .from-residual .ensures .1) in
     p .1 ∙ ap Err (p .2) ∙ broken-first
-      (miss-rules (r .format) (record { ring = c .args .ring; costs = c .args .costs; paths = c .args .paths; block = c .args .block }) (r .counted))
-      (unless (eqb (length ss) (r .format .burst)) (WrongCount (length ss)) ∷ all-fit (g .C·Cost) 0 ss ∷ [])
-      _ (c .in-Break-check-miss .ensures tt)
+    (miss-rules (r .format) (record { ring = c .args .ring; costs = c .args .costs; paths = c .args .paths; block = c .args .block }) (r .counted))
+    (unless (eqb (length ss) (r .format .burst)) (WrongCount (length ss)) ∷ all-fit (g .C·Cost) 0 ss ∷ [])
+    _ (c .in-Break-check-miss .ensures tt)

@@ -7,8 +7,8 @@ pub returns : need.returns
 returns g c =
     let agreed = c .in-Continue-format .ensures tt in
     record {
-  rules = agreed .0;
-  format = agreed .1;
-  counted = refl;
-  histories = all-sound (laws-of (g .C·Cost·met)) (g .L·Line) _ refl;
-}
+      rules = agreed .0;
+      format = agreed .1;
+      counted = refl;
+      histories = all-sound (laws-of (g .C·Cost·met)) (g .L·Line) _ refl;
+    }
