@@ -1,6 +1,4 @@
 // Lines: how the coded bits of one block lie in the places of a burst.
 pub mod interleaver;
 pub mod laying;
-#[cfg(test)]
-mod tests;
 pub mod unpunctured;

@@ -30,22 +30,3 @@ impl Code {
         true
     }
 }
-
-#[cfg(test)]
-mod tests {
-    use super::*;
-    use std::test::*;
-
-    const CODE: Code = Code {
-        rows: 2,
-        taps: [0b111, 0b101, 0, 0, 0],
-        memory: 2,
-    };
-
-    #[test]
-    fn taps_older_than_the_memory_are_unsound() -> Result<(), Fail> {
-        check(CODE.is_sound())?;
-        let short = Code { memory: 1, ..CODE };
-        check(!short.is_sound())
-    }
-}

@@ -45,25 +45,3 @@ fn aged(run: &[u8], newest: usize, age: usize) -> bool
     }
     run[newest - age] & 1 == 1
 }
-
-#[cfg(test)]
-mod tests {
-    use super::*;
-    use std::test::*;
-
-    const CODE: Code = Code {
-        rows: 2,
-        taps: [0b111, 0b101, 0, 0, 0],
-        memory: 2,
-    };
-
-    #[test]
-    fn one_bit_answers_the_taps() -> Result<(), Fail> {
-        let run = [1, 0, 0, 0, 0, 0];
-        let coded = [1, 1, 1, 0, 1, 1, 0, 0, 0, 0, 0, 0, 0, 0, 0, 0];
-        for (j, bit) in coded.iter().enumerate() {
-            check_eq(CODE.coded_bit(&run, j), *bit == 1)?;
-        }
-        Ok(())
-    }
-}

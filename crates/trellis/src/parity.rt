@@ -24,15 +24,3 @@ fn reduce(v: u32) -> u32
 {
     if v >= 65536 { v ^ 0x11021 } else { v }
 }
-
-#[cfg(test)]
-mod tests {
-    use super::*;
-    use std::test::*;
-
-    #[test]
-    fn power_16_leaves_the_lower_powers_of_the_generator() -> Result<(), Fail> {
-        let run = [1, 0, 0, 0, 0, 0, 0, 0, 0, 0, 0, 0, 0, 0, 0, 0, 0];
-        check_eq(remainder_of(&run), 0x1021)
-    }
-}

@@ -46,17 +46,3 @@ fn gather(paths: &mut [u8], memory: usize, steps: usize)
         paths[i] = paths[i << memory];
     }
 }
-
-#[cfg(test)]
-mod tests {
-    use super::*;
-    use std::test::*;
-
-    #[test]
-    fn the_mark_of_a_one_leads_to_the_other_register() -> Result<(), Fail> {
-        let mut paths = [0, 0, 1, 0];
-        traceback(&mut paths, 1, 2);
-        check_eq(paths[0], 1)?;
-        check_eq(paths[1], 0)
-    }
-}

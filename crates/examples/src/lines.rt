@@ -1,8 +1,9 @@
-use crate::interleaver::Interleaved;
-use crate::interleaver::InterleavedLine;
-use crate::laying::Line;
-use crate::unpunctured::Unpunctured;
-use crate::unpunctured::UnpuncturedLine;
+// Where the interleaver lays the bits.
+use line::interleaver::Interleaved;
+use line::interleaver::InterleavedLine;
+use line::laying::Line;
+use line::unpunctured::Unpunctured;
+use line::unpunctured::UnpuncturedLine;
 use std::test::*;
 
 // Whether each coded bit j goes unturned to the burst place p beside it.

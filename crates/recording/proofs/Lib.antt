@@ -1,0 +1,3 @@
+pub mod Figures
+pub mod Fronts
+pub mod Playing

@@ -1,0 +1,5 @@
+pub mod Calls
+pub mod Lines
+pub mod Playing
+pub mod Recordings
+pub mod Records
