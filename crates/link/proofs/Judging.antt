@@ -10,7 +10,7 @@ use Rattle.cost.specs.declared.kind.Cost as cost
 use Rattle.line.specs.declared.laying.Line as line
 use Rattle.link.specs.declared.receiver.Receiver.{Receiver}
 use Rattle.link.specs.declared.refusal.Refusal.{Refusal}
-use Rattle.link.specs.Calls.{Memory, Reply, Counts, Judges}
+use Rattle.link.specs.Calls.{Memory, lent, Reply, Counts, Judges}
 use Rattle.link.specs.Due.{stored}
 use Rattle.link.specs.Rules.{passed}
 
@@ -23,13 +23,6 @@ module _ {C S P L : Type 0} (k : cost.Ghosts C S P) (l : line.Ghosts L) (samples
   -- where the checks pass, the call that stores the burst and then counts it takes it in
   pub judges-taken : (rules : Option (Refusal C S P)) (r′ : Receiver C L S P) (m′ : Memory S P) → Ok tt ≡ passed rules →
       m′ .ring ≡ stored (r .format) (r .counted) samples (m .ring) →
-      Counts k l r (record { ring = m′ .ring; costs = m .costs; paths = m .paths; block = m .block }) reply r′ m′ →
-      Judges k l rules samples r m reply r′ m′
-  judges-taken None r′ m′ e ring counts = record {
-    format = counts .format;
-    counted = counts .counted;
-    ring = ring;
-    waits = counts .waits;
-    decides = counts .decides;
-  }
+      Counts k l r (lent (m′ .ring) (m .costs) (m .paths) (m .block)) reply r′ m′ → Judges k l rules samples r m reply r′ m′
+  judges-taken None r′ m′ e ring counts = record { ring = ring; counts = counts }
   judges-taken (Some y) r′ m′ e ring counts = let z : _≡_ {A = ℕ} 0 1 = cc in absurd (omega arith)

@@ -4,7 +4,6 @@ pub mod Finding
 pub mod FirstRule
 pub mod Judging
 pub mod KeptBursts
-pub mod FirstOf
 pub mod Laying
 pub mod Replies
 pub mod Rings

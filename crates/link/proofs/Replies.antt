@@ -37,7 +37,7 @@ module _ {C S P L : Type 0} (k : cost.Ghosts C S P) (l : line.Ghosts L) where
       r .format ≡ f → r .counted ≡ n → Takes k l samples r m reply r′ m′ → Taken f n samples m reply m′
   taken f n samples r r′ m m′ reply same count t =
       subst (λ c. Taken f c samples m reply m′) count
-      (subst (λ g. Taken g (r .counted) samples m reply m′) same (record { ring = t .ring; waits = t .waits; decides = t .decides }))
+      (subst (λ g. Taken g (r .counted) samples m reply m′) same (record { ring = t .ring; waits = t .counts .waits; decides = t .counts .decides }))
 
   -- the three replies to a burst that was taken in
   pub data Replied (f : Format L) (n : ℕ) (reply : Reply k l) : Type 0 where
@@ -76,6 +76,12 @@ module _ {C S P L : Type 0} (k : cost.Ghosts C S P) (l : line.Ghosts L) where
   replied-timely f n reply (told-block other at e) report (inr q) = let z : _≡_ {A = ℕ} 0 1 = cc in absurd (omega arith)
   replied-timely f n reply (told-wrong other at e) report (inl q) = let z : _≡_ {A = ℕ} 0 1 = cc in absurd (omega arith)
   replied-timely f n reply (told-wrong other at e) report (inr q) = let same : report ≡ other = cc in ap (λ y. y .block + f .depth) same ∙ at
+
+  -- it waits only while the first block's bursts are not all there, and tells the burst's number
+  pub replied-waits : (f : Format L) (n : ℕ) (reply : Reply k l) → Replied f n reply → (burst : ℕ) → reply ≡ Ok (Waiting burst) → (burst ≡ n) × (n + 1 < f .depth)
+  replied-waits f n reply (waiting h e) burst q = (cc, h)
+  replied-waits f n reply (told-block report at e) burst q = let z : _≡_ {A = ℕ} 0 1 = cc in absurd (omega arith)
+  replied-waits f n reply (told-wrong report at e) burst q = let z : _≡_ {A = ℕ} 0 1 = cc in absurd (omega arith)
 
   -- where the burst has been stored, the block that it ends is told as claimed
   pub taken-best : Laws k → (f : Format L) (bursts : List (List S)) (samples : List S) (m m′ : Memory S P) (reply : Reply k l) →

@@ -25,7 +25,7 @@ use Rattle.link.specs.Refusals.{told}
 use Rattle.link.specs.Rules.{first, unless, hear-rules, miss-rules}
 use Rattle.link.proofs.FirstRule.{Uncounted, Storable, Guards, hear-guards, miss-guards}
 use Rattle.link.proofs.KeptBursts.{Keeps, keeps-none, keeps-more}
-use Rattle.link.proofs.Replies.{Taken, Replied, taken, replied, replied-counts, replied-refuses, replied-timely, taken-best}
+use Rattle.link.proofs.Replies.{Taken, Replied, taken, replied, replied-counts, replied-refuses, replied-timely, replied-waits, taken-best}
 
 module _ {C S P L : Type 0} {k : cost.Ghosts C S P} (laws : Laws k) (l : line.Ghosts L) where
   -- what every history leaves: a receiver of the same format that has counted the bursts, and a ring that keeps the last of them
@@ -70,8 +70,8 @@ module _ {C S P L : Type 0} {k : cost.Ghosts C S P} (laws : Laws k) (l : line.Gh
         })
     judged-invariant None guards takes =
         subst (Invariant f r′ (m′ .ring)) (sym (taken-counting takes)) (record {
-          format = takes .format ∙ before .format;
-          counted = takes .counted ∙ ap (λ n. n + 1) (before .counted) ∙ sym (length-push bursts samples);
+          format = takes .counts .format ∙ before .format;
+          counted = takes .counts .counted ∙ ap (λ n. n + 1) (before .counted) ∙ sym (length-push bursts samples);
           keeps = taken-keeps takes (guards .storable refl);
         })
 
@@ -84,6 +84,7 @@ module _ {C S P L : Type 0} {k : cost.Ghosts C S P} (laws : Laws k) (l : line.Gh
       only = λ y e. let same : x ≡ y = cc in inl (ap Some same);
       accepted = λ e. absurd (let z : _≡_ {A = ℕ} 0 1 = cc in omega arith);
       waits = λ e. absurd (let z : _≡_ {A = ℕ} 0 1 = cc in omega arith);
+      waits-only = λ burst e. absurd (let z : _≡_ {A = ℕ} 0 1 = cc in omega arith);
       decides = λ e. absurd (let z : _≡_ {A = ℕ} 0 1 = cc in omega arith);
       timely = λ report told-as. absurd (elim told-as [
         | inl e ↦ let z : _≡_ {A = ℕ} 0 1 = cc in omega arith
@@ -95,6 +96,7 @@ module _ {C S P L : Type 0} {k : cost.Ghosts C S P} (laws : Laws k) (l : line.Gh
       only = λ y e. inr (replied-refuses k l f (length bursts) reply (replied-here takes) y e);
       accepted = λ e. taken-counting takes;
       waits = λ e. taken-here takes .waits;
+      waits-only = λ burst e. let now = replied-waits k l f (length bursts) reply (replied-here takes) burst e in (refl, now .0, now .1);
       decides = λ e. taken-best k l laws f bursts samples m m′ reply (taken-here takes) (taken-keeps takes (guards .storable refl));
       timely = λ report told-as. (refl, replied-timely k l f (length bursts) reply (replied-here takes) report told-as);
     }

@@ -97,15 +97,10 @@ module _ {C S P L : Type 0} (k : cost.Ghosts C S P) (l : line.Ghosts L) where
     pub decides : r .format .depth ≤ r .counted + 1 →
         Decides (r .format) (in-ring k (r .format) (m .ring) (r .counted + 1 - r .format .depth)) (r .counted + 1 - r .format .depth) (m .block) reply (m′ .block)
 
-  -- a burst is taken in: stored and counted, and the block whose last burst it is decided
+  -- a burst is taken in: it is stored, and then counted
   pub record Takes (samples : List S) (r : Receiver C L S P) (m : Memory S P) (reply : Reply) (r′ : Receiver C L S P) (m′ : Memory S P) : Type 0 where
-    pub format : r′ .format ≡ r .format
-    pub counted : r′ .counted ≡ r .counted + 1
     pub ring : m′ .ring ≡ stored (r .format) (r .counted) samples (m .ring)
-    pub waits : r .counted + 1 < r .format .depth →
-        (reply ≡ Ok (Waiting (r .counted))) × (m′ .costs ≡ m .costs) × (m′ .paths ≡ m .paths) × (m′ .block ≡ m .block)
-    pub decides : r .format .depth ≤ r .counted + 1 →
-        Decides (r .format) (in-ring k (r .format) (m′ .ring) (r .counted + 1 - r .format .depth)) (r .counted + 1 - r .format .depth) (m .block) reply (m′ .block)
+    pub counts : Counts r (lent (m′ .ring) (m .costs) (m .paths) (m .block)) reply r′ m′
 
   -- by the first rule that is broken
   abbrev pub Judges : Option (Refusal C S P) → List S → Receiver C L S P → Memory S P → Reply → Receiver C L S P → Memory S P → Type 0

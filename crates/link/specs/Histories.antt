@@ -76,6 +76,8 @@ module _ {C S P L : Type 0} (k : cost.Ghosts C S P) (l : line.Ghosts L) where
     -- while the first block's bursts are not all counted, the answer is the burst's number and no other memory is touched
     pub waits : rules ≡ None → length bursts + 1 < f .depth →
         (reply ≡ Ok (Waiting (length bursts))) × (m′ .costs ≡ m .costs) × (m′ .paths ≡ m .paths) × (m′ .block ≡ m .block)
+    -- and the answer is to wait at no other time
+    pub waits-only : (burst : ℕ) → reply ≡ Ok (Waiting burst) → (rules ≡ None) × (burst ≡ length bursts) × (length bursts + 1 < f .depth)
     -- from then on each burst counted ends a block, which is told
     pub decides : rules ≡ None → (b : ℕ) → b + f .depth ≡ length bursts + 1 →
         Best f (bursts ++ (samples ∷ [])) b (m .block) reply (m′ .block)

@@ -6,7 +6,7 @@ use Rattle.std.proofs.shelf.Results.{err-from-errBy}
 use Rattle.std.specs.declared.result.Result.the-variants.{Err}
 use Rattle.link.specs.declared.refusal.Refusal.the-variants.{WrongCount}
 use Rattle.link.specs.Rules.{all-fit, miss-rules, unless}
-use Rattle.link.proofs.FirstOf.{broken-first}
+use Rattle.link.proofs.FirstRule.{broken-first}
 use Rattle.link.proofs.receiver.Receiver.check_hear.Needs as need
 
 pub returns-in-Break-check-miss : need.returns-in-Break-check-miss
