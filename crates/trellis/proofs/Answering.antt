@@ -10,7 +10,7 @@ use lib.ListN.{length, take, replicate}
 use lib.Pow.{pow-pos}
 use Rattle.std.specs.declared.option.Option.{Option}
 use Rattle.std.specs.declared.option.Option.the-variants.{Some}
-use Rattle.std.proofs.shelf.Lists.{nil-from-length, take-append-le}
+use Rattle.std.proofs.shelf.Lists.{length-reverse, nil-from-length, take-append-le}
 use Rattle.std.proofs.shelf.Tests.{and-parts, leb-true}
 use Rattle.cost.specs.declared.kind.Cost.{Ghosts}
 use Rattle.cost.proofs.Lawful.{Laws}
@@ -60,6 +60,7 @@ module _ {C S P : Type 0} {k : Ghosts C S P} (laws : Laws k) (code : Code) (met 
       record {
         path = path;
         answered = best .1;
+        least = λ run h. best .2 (reverse run) (simp length-reverse h);
         own = value ∙ ap (cost-kept k rows met) last;
         traced = back (kept-at k rows met m) path (record {
           first = λ s p e. nil-from-length p (survivor-length k rows met 0 (bits m s) p e);
@@ -74,6 +75,7 @@ pub answered-longer : {C S P : Type 0} (k : Ghosts C S P) (rows : List ℕ) (met
 answered-longer k rows met memory steps cost paths more room d = record {
   path = d .path;
   answered = d .answered;
+  least = d .least;
   own = d .own;
   traced = take-append-le steps paths more room ∙ d .traced;
 }
