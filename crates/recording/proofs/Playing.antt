@@ -1,15 +1,15 @@
 -- Playing what is left of a recording, from its front on.
 use mathlib.Core.Path.{_≡_, refl, sym, _∙_, ap, subst}
-use mathlib.Core.Bool.{true}
 use mathlib.Core.List.{List, [], _∷_, _++_, append-assoc, append-nil}
 use Prim.Native.Nat.{ℕ, _+_, _≤_, _<_}
 use native.Mathlib.Omega.{arith}
-use lib.ListN.{length, take, drop, length-take}
+use lib.ListN.{length, drop, length-take}
 use Rattle.std.proofs.shelf.Lists.{drop-all, drop-drop, length-drop}
 use Rattle.std.specs.Options.{isSome}
 use Rattle.std.specs.declared.option.Option.{Option}
 use Rattle.std.specs.declared.option.Option.the-variants.{Some, None}
 use Rattle.link.specs.declared.refusal.Refusal.the-variants.{BadRecord}
+use Rattle.recording.specs.Calls.{Room}
 use Rattle.recording.specs.Lines.{refusal-line}
 use Rattle.recording.specs.Playing.{Plays, Played, Turn, Runs, done, played, written, all-written, fault-written}
 use Rattle.recording.specs.Recordings.{Next, Spells, ends, faults, says}
@@ -33,15 +33,15 @@ played-fault bench at bytes some no-next =
 
 -- a record makes its line, and what follows it makes the others
 played-record : (bench : Option Bench) (after : Bench) (at : ℕ) (bytes : List ℕ) (s : Said) (line : Line) (made : List ℕ) →
-    Next (isSome bench) bytes s → Plays s bench after line →
+    Next (isSome bench) bytes s → Plays s bench after line → Room after →
     Played (Some after) (at + length (spelling s)) (drop (length (spelling s)) bytes) made → Played bench at bytes (written line ++ made)
-played-record bench after at bytes s line made n a p =
+played-record bench after at bytes s line made n a room p =
     record {
       records = s ∷ p .records;
       fault = p .fault;
       lines = line ∷ p .lines;
       spelt = says (isSome bench) at bytes s (p .records) (p .fault) n (p .spelt);
-      run = played s bench after line (p .records) (p .lines) a (p .run);
+      run = played s bench after line (p .records) (p .lines) a room (p .run);
       shown = ap (λ t. written line ++ t) (p .shown) ∙ sym (append-assoc (written line) (all-written (p .lines)) (fault-written (p .fault)));
     }
 
@@ -59,7 +59,7 @@ gives-after bytes bench at before bench′ taken after gives t made p =
     let left : Played (Some bench′) (at + n) (drop n (drop at bytes)) made =
     subst (λ k. Played (Some bench′) (at + k) (drop n (drop at bytes)) made) (t .whole) (subst (λ b. Played (Some bench′) (at + taken) b made) moved p) in
     let whole : Played None 0 bytes (before ++ (written line ++ made)) =
-    gives (written line ++ made) (played-record bench bench′ at (drop at bytes) (t .saying) line made (t .next) (t .wrote .plays) left) in
+    gives (written line ++ made) (played-record bench bench′ at (drop at bytes) (t .saying) line made (t .next) (t .wrote .plays) (t .wrote .room) left) in
     subst (λ b. Played None 0 bytes b) (sym (append-assoc before (written line) made) ∙ ap (λ b. b ++ made) (sym (t .wrote .wrote))) whole
 
 -- a turn stays within the bytes

@@ -4,14 +4,14 @@ use Prim.Native.Nat.{ℕ}
 use lib.Chars.{codes}
 use denote.Ref.{RefT, now}
 use Rattle.std.specs.Written.{decimal}
-use Rattle.recording.specs.Records.{channel-byte}
 use Rattle.std.specs.declared.result.Result.{Result}
 use Rattle.std.specs.declared.result.Result.the-variants.{Ok, Err}
 use Rattle.cost.specs.declared.count.Count.{Count}
 use Rattle.link.specs.Refusals.{told}
 use Rattle.link.specs.declared.refusal.Refusal.{Refusal}
-use Rattle.link.specs.declared.report.Answer as answer
-use Rattle.link.specs.declared.report.Answer.the-variants as an
+use Rattle.link.specs.declared.report.Answer.{Answer}
+use Rattle.link.specs.declared.report.Answer.the-variants as answers
+use Rattle.recording.specs.Records.{channel-byte}
 use Rattle.recording.specs.declared.line.Line.{Line}
 use Rattle.recording.specs.declared.line.Line.the-variants.{Opened, Block, Waiting, Stolen, Restarted, Refused}
 
@@ -39,15 +39,17 @@ text (Refused number detail) = words (codes "X" ∷ decimal number ∷ decimal d
 abbrev pub refusal-line : Refusal Count ℕ ℕ → Line
 refusal-line refusal = Refused (told refusal .number) (told refusal .detail)
 
--- the line of an answer to hear or miss, where the block memory holds the message
-abbrev pub report-line : answer.Answer Count ℕ ℕ → RefT (List ℕ) → Line
-report-line (an.Waiting burst) message = Waiting burst
-report-line (an.Block report) message = Block (report .block) (report .cost .value) (report .heard) (record { 0 = message })
+-- the line of an answer to a burst heard or missed, with the message that the block memory holds
+abbrev pub report-line : Answer Count ℕ ℕ → RefT (List ℕ) → Line
+report-line (answers.Waiting burst) message = Waiting burst
+report-line (answers.Block report) message = Block (report .block) (report .cost .value) (report .heard) (record { 0 = message })
 
-abbrev pub answer-line : Result (answer.Answer Count ℕ ℕ) (Refusal Count ℕ ℕ) → RefT (List ℕ) → Line
+-- the same where the call may have been refused
+abbrev pub answer-line : Result (Answer Count ℕ ℕ) (Refusal Count ℕ ℕ) → RefT (List ℕ) → Line
 answer-line (Ok answer) message = report-line answer message
 answer-line (Err refusal) message = refusal-line refusal
 
+-- the line of an answer to a stolen burst
 abbrev pub stolen-line : Result ℕ (Refusal Count ℕ ℕ) → Line
 stolen-line (Ok counted) = Stolen counted
 stolen-line (Err refusal) = refusal-line refusal

@@ -1,6 +1,5 @@
 -- What playing a recording makes: a line for each record, and one for the fault that stops reading.
 use mathlib.Core.Path.{_≡_}
-use mathlib.Core.Bool.{Bool, true, false}
 use mathlib.Core.List.{List, [], _∷_, _++_}
 use Prim.Native.Nat.{ℕ}
 use lib.ListN.{length}
@@ -12,7 +11,7 @@ use Rattle.std.specs.declared.result.Result.{Result}
 use Rattle.cost.specs.declared.count.Count.{Count}
 use Rattle.link.specs.declared.refusal.Refusal.{Refusal}
 use Rattle.link.specs.declared.refusal.Refusal.the-variants.{BadRecord}
-use Rattle.recording.specs.Calls.{Reply, Fresh, Hears-bench, Misses-bench, Steals-bench, Restarts-bench}
+use Rattle.recording.specs.Calls.{Reply, Room, Fresh, Hears-bench, Misses-bench, Steals-bench, Restarts-bench}
 use Rattle.recording.specs.Lines.{text, answer-line, stolen-line, refusal-line}
 use Rattle.recording.specs.Recordings.{Next, Spells}
 use Rattle.recording.specs.Records.{Said, opens, hears, misses, steals, restarts, spelling}
@@ -46,16 +45,17 @@ Plays steals (Some b) after line = (after ≡ b) × Stolen-replied b line
 Plays restarts None after line = ⊥
 Plays restarts (Some b) after line = Restarts-bench b after × (line ≡ Restarted)
 
--- the records played one after the other, each on the bench that the one before it left
+-- the records played one after the other, each on the bench that the one before it left; each leaves the memory as large as it was
 pub data Runs : Option Bench → List Said → List Line → Type 0 where
   done : (bench : Option Bench) → Runs bench [] []
   played : (s : Said) (before : Option Bench) (after : Bench) (line : Line) (records : List Said) (lines : List Line) →
-      Plays s before after line → Runs (Some after) records lines → Runs before (s ∷ records) (line ∷ lines)
+      Plays s before after line → Room after → Runs (Some after) records lines → Runs before (s ∷ records) (line ∷ lines)
 
 -- a line with its end
 abbrev pub written : Line → List ℕ
 written line = text line ++ (10 ∷ [])
 
+-- lines one after the other
 abbrev pub all-written : List Line → List ℕ
 all-written [] = []
 all-written (line ∷ lines) = written line ++ all-written lines
@@ -78,6 +78,7 @@ pub record Played (bench : Option Bench) (at : ℕ) (bytes : List ℕ) (made : L
 pub record Wrote (s : Said) (bench : Option Bench) (before : List ℕ) (bench′ : Bench) (after : List ℕ) : Type 0 where
   pub line : Line
   pub plays : Plays s bench bench′ line
+  pub room : Room bench′
   pub wrote : after ≡ before ++ written line
 
 -- the record at the front of the bytes played

@@ -1,7 +1,7 @@
 -- The records of a recording, and the bytes that spell them.
 use mathlib.Core.Path.{_≡_}
-use mathlib.Core.List.{List, [], _∷_, _++_}
-use Prim.Native.Nat.{ℕ, _+_, _*_, _/_, _%_, _≤_}
+use mathlib.Core.List.{List, [], _∷_}
+use Prim.Native.Nat.{ℕ, _/_, _%_, _≤_}
 use lib.ListN.{length, take}
 use denote.Ref.{now}
 use Rattle.std.specs.declared.option.Option.{Option}
@@ -13,7 +13,7 @@ use Rattle.recording.specs.declared.record.Kind.the-variants.{Count}
 use Rattle.recording.specs.declared.record.Record.{Record}
 use Rattle.recording.specs.declared.record.Record.the-variants.{Open, Hear, Miss, Stolen, Restart}
 
--- what a record says
+-- what a record says, its samples by value
 pub data Said : Type 0 where
   opens : Channel → Kind → Said
   hears : List ℕ → Said
@@ -44,7 +44,7 @@ spelling misses = 0x4D ∷ 0x49 ∷ []
 spelling steals = 0x53 ∷ 0x54 ∷ []
 spelling restarts = 0x52 ∷ 0x45 ∷ []
 
--- no more than 1,024 samples belong to a record
+-- how many samples belong to a record
 abbrev pub samples-in : Said → ℕ
 samples-in (opens channel kind) = 0
 samples-in (hears samples) = length samples
@@ -52,7 +52,7 @@ samples-in misses = 0
 samples-in steals = 0
 samples-in restarts = 0
 
--- the bytes begin with the record
+-- the bytes begin with the record, which has no more than 1,024 samples
 pub record Begins (bytes : List ℕ) (s : Said) : Type 0 where
   pub short : samples-in s ≤ 1024
   pub spelt : take (length (spelling s)) bytes ≡ spelling s

@@ -1,6 +1,6 @@
 // The bench's receiver at the count kind, with the memory that its calls are lent.
 ghost use mathlib.Core.Path.{_≡_};
-ghost use Rattle.recording.specs.Calls.{Fresh, Hears-bench, Misses-bench, Steals-bench, Restarts-bench};
+ghost use Rattle.recording.specs.Calls.{Fresh, Room, Hears-bench, Misses-bench, Steals-bench, Restarts-bench};
 use channels::bench::BenchLine;
 use channels::bench::open_bench;
 use cost::count::Count;
@@ -35,7 +35,8 @@ impl Bench {
     }
 
     pub(crate) fn hear(&mut self, samples: &[u8]) -> Result<Answer<Count>, Refusal<Count>>
-        ensures { λ r. ⌜ Hears-bench (now (samples .entry)) (now (self .entry)) r (now (self .exit)) ⌝ }
+        ensures call { λ r. ⌜ Hears-bench (now (samples .entry)) (now (self .entry)) r (now (self .exit)) ⌝ }
+        ensures room { λ _. ⌜ Room (now (self .exit)) ⌝ }
     {
         let Bench {
             receiver,
@@ -48,7 +49,8 @@ impl Bench {
     }
 
     pub(crate) fn miss(&mut self) -> Result<Answer<Count>, Refusal<Count>>
-        ensures { λ r. ⌜ Misses-bench (now (self .entry)) r (now (self .exit)) ⌝ }
+        ensures call { λ r. ⌜ Misses-bench (now (self .entry)) r (now (self .exit)) ⌝ }
+        ensures room { λ _. ⌜ Room (now (self .exit)) ⌝ }
     {
         let Bench {
             receiver,
