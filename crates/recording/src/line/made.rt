@@ -12,19 +12,19 @@ use link::refusal::Refusal;
 use link::report::Answer;
 
 impl<'a> Line<'a> {
-    pub fn opened(channel: Channel) -> Line<'a>
+    pub(crate) fn opened(channel: Channel) -> Line<'a>
         ensures { λ r. ⌜ r ≡ Opened channel ⌝ }
     {
         Line::Opened(channel)
     }
 
-    pub fn restarted() -> Line<'a>
+    pub(crate) fn restarted() -> Line<'a>
         ensures { λ r. ⌜ r ≡ Restarted ⌝ }
     {
         Line::Restarted
     }
 
-    pub fn refused(refusal: &Refusal<Count>) -> Line<'a>
+    pub(crate) fn refused(refusal: &Refusal<Count>) -> Line<'a>
         ensures { λ r. ⌜ r ≡ refusal-line (now (refusal .entry)) ⌝ }
     {
         Line::Refused {
@@ -33,7 +33,7 @@ impl<'a> Line<'a> {
         }
     }
 
-    pub fn stolen(reply: Result<usize, Refusal<Count>>) -> Line<'a>
+    pub(crate) fn stolen(reply: Result<usize, Refusal<Count>>) -> Line<'a>
         ensures { λ r. ⌜ r ≡ stolen-line reply ⌝ }
     {
         match reply {
@@ -43,7 +43,7 @@ impl<'a> Line<'a> {
     }
 
     // Of a block decided, with its message.
-    pub fn answered(reply: Result<Answer<Count>, Refusal<Count>>, message: &'a [u8]) -> Line<'a>
+    pub(crate) fn answered(reply: Result<Answer<Count>, Refusal<Count>>, message: &'a [u8]) -> Line<'a>
         ensures { λ r. ⌜ r ≡ answer-line reply (message .entry) ⌝ }
     {
         match reply {
