@@ -1,2 +1,1 @@
 pub mod Interleaving
-pub mod Lawful

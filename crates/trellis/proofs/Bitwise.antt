@@ -4,6 +4,7 @@ use mathlib.Core.Bool.{Bool, true, false, not, _&&_}
 use mathlib.Core.Logic.{inl, inr}
 use Prim.Native.Nat.{ℕ, suc, _+_, _/_, _%_, _^_, _<_, min}
 use native.Mathlib.Omega.{arith}
+use lib.Count.{ones}
 use mir.Val.{boolByte}
 use Rattle.std.proofs.shelf.Bits.{shr-below}
 use Rattle.std.proofs.shelf.Ways.{eqb-tells, tells}
@@ -42,3 +43,8 @@ byte-bit false = refl
 -- half of a number of one bit more
 pub half-below : (m n : ℕ) → n < 2 ^ suc m → n / 2 < 2 ^ m
 half-below m n h = let on : suc m ≡ m + 1 = omega arith in shr-below n m 1 (subst (λ k. n < 2 ^ k) on h)
+
+-- 0 has no ones
+pub ones-none : ones 0 ≡ 0
+unfolding ones
+ones-none = refl

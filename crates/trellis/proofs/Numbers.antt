@@ -16,17 +16,12 @@ use Rattle.std.proofs.shelf.Tests.{cases-eq, eq-eqb, ne-eqb, and-left, and-righ
 use Rattle.trellis.specs.Bits.{odd, xor, bit-of, bits, empty}
 use Rattle.trellis.specs.Codes.{summed}
 use Rattle.trellis.specs.Paths.{register}
-use Rattle.trellis.proofs.Bitwise.{bit-below, bit-of-odd, half-below, min-bits, odd-add}
-
--- 0 has no ones
-ones-zero : ones 0 ≡ 0
-unfolding ones
-ones-zero = refl
+use Rattle.trellis.proofs.Bitwise.{bit-below, bit-of-odd, half-below, min-bits, odd-add, ones-none}
 
 -- the bits of a window under the taps, counted, are odd where the row's sum is 1
 pub odd-ones-summed : (n w taps : ℕ) → w < 2 ^ n → odd (ones (bitAnd w taps)) ≡ summed taps (bits n w)
 odd-ones-summed zero w taps h =
-    let e : w ≡ 0 = omega arith in ap (λ x. odd (ones (bitAnd x taps))) e ∙ ap (λ x. odd (ones x)) (and-zero-l taps) ∙ ap odd ones-zero
+    let e : w ≡ 0 = omega arith in ap (λ x. odd (ones (bitAnd x taps))) e ∙ ap (λ x. odd (ones x)) (and-zero-l taps) ∙ ap odd ones-none
 odd-ones-summed (suc n) w taps h =
     let a = bitAnd (w / 2) (taps / 2) in
     let d = odd taps && odd w in

@@ -54,7 +54,7 @@ register-closed zero u = refl
 register-closed (suc m) u = ap (λ r. false ∷ r) (register-closed m u)
 
 -- a row without taps sums to 0
-summed-none : (p : List Bool) → summed 0 p ≡ false
+pub summed-none : (p : List Bool) → summed 0 p ≡ false
 summed-none [] = refl
 summed-none (b ∷ p) = summed-none p
 

@@ -16,17 +16,8 @@ use Rattle.trellis.specs.Bits.{odd, xor, bit-of}
 use Rattle.trellis.specs.Codes.{summed}
 use Rattle.trellis.specs.Coding.{packed, entered}
 use Rattle.trellis.specs.Paths.{register}
-use Rattle.trellis.proofs.Bitwise.{bit-below, bit-of-odd, byte-bit, half-below, min-bits, odd-add}
-use Rattle.trellis.proofs.Registers.{summed-same}
-
--- no taps sum to 0
-pub summed-none : (p : List Bool) → summed 0 p ≡ false
-summed-none p = summed-same 0 0 p [] (omega arith) refl
-
--- 0 has no ones
-ones-none : ones 0 ≡ 0
-unfolding ones
-ones-none = refl
+use Rattle.trellis.proofs.Bitwise.{bit-below, bit-of-odd, byte-bit, half-below, min-bits, odd-add, ones-none}
+use Rattle.trellis.proofs.Registers.{summed-none, summed-same}
 
 -- the newest bit of a window against the newest tap, and the rest
 chosen-step :

@@ -40,12 +40,6 @@ drop-parts path n b q e =
     (lt, here, after)
 
 module _ (memory steps : ℕ) (kept : ℕ → ℕ → Option (List Bool)) (path : List Bool) (before : List ℕ) (recorded : Recorded memory steps kept path before) where
-  -- at the start
-  pub back-none : (paths : List ℕ) → Back memory steps kept path paths steps 0
-  back-none paths =
-      let none : steps - steps ≡ 0 = omega arith in
-      record { there = recorded .last ∙ ap (λ n. Some (drop n path)) (sym none); long = omega arith; heads = λ i h k. absurd (omega arith) }
-
   -- one step back
   pub back-more : (paths : List ℕ) (t register : ℕ) → t < steps → register < 2 ^ memory → t * 2 ^ memory < length paths → Back memory steps kept path paths (t + 1) register →
       Back memory steps kept path (set paths (t * 2 ^ memory) (bit-of (odd register))) t (register / 2 + getD before (t * 2 ^ memory + register) 0 % 2 * 2 ^ (memory - 1))

@@ -12,7 +12,8 @@ use Rattle.std.proofs.shelf.Lists.{getD-past}
 use Rattle.trellis.specs.Bits.{odd}
 use Rattle.trellis.specs.Codes.{summed}
 use Rattle.trellis.specs.Coding.{entered}
-use Rattle.trellis.proofs.Taps.{summed-none, summed-chosen}
+use Rattle.trellis.proofs.Registers.{summed-none}
+use Rattle.trellis.proofs.Taps.{summed-chosen}
 use Rattle.trellis.proofs.code.Code.coded_bit.Needs as need
 
 pub returns-then-row-ge5 : need.returns-then-row-ge5
