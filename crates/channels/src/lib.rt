@@ -1,4 +1,6 @@
 // The channels that a receiver can be opened for.
+#![tactic(auto)]
+
 pub mod bcch;
 pub mod bench;
 pub mod channel;

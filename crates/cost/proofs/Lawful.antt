@@ -7,6 +7,7 @@ use types.Logic.{Logic}
 use contract.Running.{Running}
 use denote.RattleType.{RattleType}
 use mir.Syntax.{Dict}
+use Rattle.std.specs.declared.clone.Clone as Clone
 use Rattle.cost.specs.declared.kind.Cost.{Ghosts}
 use Rattle.cost.specs.contracts.kind.Cost.TheBound.{Met}
 
@@ -17,7 +18,10 @@ pub record Laws {C S P : Type 0} (k : Ghosts C S P) : Type 0 where
   pub erased_fit : k.fit k.erased ≡ true
   pub laid : (a : C) → k.lift (k.lay a) ≡ a
 
-pub laws_of : {M : Type 1} {𝓤 : Ura M} {𝓛 : Logic 𝓤} {𝓜 : Model 𝓤 𝓛.H} {𝓡 : Running 𝓤 𝓛.H 𝓜} {γ : Env} {C S P : RattleType} {k : Ghosts C.Denot S.Denot P.Denot} {d : Dict} → Met 𝓛 𝓜 𝓡 γ C S P k d → Laws k
+-- a kind that meets the trait obeys its laws
+pub laws_of : {M : Type 1} {𝓤 : Ura M} {𝓛 : Logic 𝓤} {𝓜 : Model 𝓤 𝓛.H} {𝓡 : Running 𝓤 𝓛.H 𝓜} {γ : Env} {C S P : RattleType} {k : Ghosts C.Denot S.Denot P.Denot} {d : Dict}
+    {cost : Clone.Ghosts C.Denot} {cost_dict : Dict} {sample : Clone.Ghosts S.Denot} {sample_dict : Dict} {plain : Clone.Ghosts P.Denot} {plain_dict : Dict} →
+    Met 𝓛 𝓜 𝓡 γ C S P k d cost cost_dict sample sample_dict plain plain_dict → Laws k
 laws_of m = record { total = m.total; trans = m.trans; keeps = m.keeps; erased_fit = m.erased_fit; laid = m.laid }
 
 module _ {C S P : Type 0} {k : Ghosts C S P} (laws : Laws k) where

@@ -1,5 +1,5 @@
 -- The count kind of cost: what a sample adds, and its ceiling.
-use Rattle.std.specs.Prelude.{ℕ, ◌+◌, ◌≤◌, min, Bool, true, false, cond, ◌==◌, nat_le}
+use Rattle.std.specs.Prelude.{ℕ, ◌+◌, min, Bool, true, false, cond, ◌==◌, nat_le}
 use Rattle.std.proofs.Common.{arith}
 use Rattle.cost.specs.declared.count.Count.{Count}
 

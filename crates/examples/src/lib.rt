@@ -1,4 +1,6 @@
 // Worked examples, as tests.
+#![tactic(auto)]
+
 #[cfg(test)]
 mod bench;
 #[cfg(test)]

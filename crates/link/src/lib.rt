@@ -1,4 +1,6 @@
 // Both ends of a link: the block format, and the receiver with its calls.
+#![tactic(auto)]
+
 mod due;
 pub mod format;
 pub mod needs;

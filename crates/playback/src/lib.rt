@@ -1,4 +1,6 @@
 // Playing a recording: the calls that its records make, and the lines that tell the answers.
+#![tactic(auto)]
+
 mod figures;
 mod line;
 pub mod play;

@@ -1,4 +1,6 @@
 // Recordings: the records of one, and the lines that playing them makes.
+#![tactic(auto)]
+
 mod bench;
 mod line;
 pub mod play;

@@ -1,4 +1,6 @@
 // Plays the recording on standard input, and prints its lines.
+#![tactic(auto)]
+
 use playback::play::play;
 use std::io::Read;
 

@@ -1,2 +1,4 @@
 // Receivers with memory of their own, for programs that have a heap.
+#![tactic(auto)]
+
 pub mod station;

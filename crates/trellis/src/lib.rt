@@ -1,4 +1,6 @@
 // The convolutional code, and the trellis that answers the path of least cost.
+#![tactic(auto)]
+
 pub mod code;
 mod code_check;
 mod coding;

@@ -1,4 +1,6 @@
 // Decodes the bursts of an outside encoder on each channel, by each kind of cost and under each condition, and prints a line for each answer.
+#![tactic(auto)]
+
 mod condition;
 mod decoding;
 mod hearing;

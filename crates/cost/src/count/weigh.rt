@@ -37,13 +37,13 @@ impl Cost for Count {
 
     ghost lift = { count_lifted };
 
-    ghost total = { first_of (Prim.search rules, Prim.grind (arith, Self.row.coded.inj)) };
+    ghost total = { Prim.search rules };
 
-    ghost trans = { first_of (Prim.search rules, Prim.grind (arith, Self.row.coded.inj)) };
+    ghost trans = { Prim.search rules };
 
-    ghost keeps = { first_of (Prim.search rules, Prim.grind (arith, Self.row.coded.inj)) };
+    ghost keeps = { Prim.search rules };
 
-    ghost raises = { first_of (Prim.search rules, Prim.grind (arith, Self.row.coded.inj)) };
+    ghost raises = { Prim.search rules };
 
     ghost silence = { λ a s.
         elim [
@@ -57,15 +57,15 @@ impl Cost for Count {
           | false ↦ let h = a.bound in same _ _ (omega arith)
         ] };
 
-    ghost differs_one = { first_of (Prim.search rules, Prim.grind (arith, Self.row.coded.inj)) };
+    ghost differs_one = { Prim.search rules };
 
-    ghost differs_zero = { first_of (Prim.search rules, Prim.grind (arith, Self.row.coded.inj)) };
+    ghost differs_zero = { Prim.search rules };
 
-    ghost erased_fit = { first_of (Prim.search rules, Prim.grind (arith, Self.row.coded.inj)) };
+    ghost erased_fit = { Prim.search rules };
 
-    ghost erased_silent = { first_of (Prim.search rules, Prim.grind (arith, Self.row.coded.inj)) };
+    ghost erased_silent = { Prim.search rules };
 
-    ghost clean_fit = { first_of (Prim.search rules, Prim.grind (arith, Self.row.coded.inj)) };
+    ghost clean_fit = { Prim.search rules };
 
     ghost laid = { λ a. let h = a.bound in same _ _ (Prim.search rules) };
 
@@ -75,7 +75,7 @@ impl Cost for Count {
         (λ e. absurd (never (counted p) (omega (arith, leb-true p 65535 e))))
         (λ e. refl)) };
 
-    ghost roomy = { first_of (Prim.search rules, Prim.grind (arith, Self.row.coded.inj)) };
+    ghost roomy = { Prim.search rules };
 
     fn nothing_sample() -> u8 {
         Self::NOTHING

@@ -43,27 +43,27 @@ impl Cost for Ranked {
 
     ghost lift = { ranked_lifted };
 
-    ghost total = { first_of (Prim.search rules, Prim.grind (arith, Self.row.coded.inj)) };
+    ghost total = { Prim.search rules };
 
-    ghost trans = { first_of (Prim.search rules, Prim.grind (arith, Self.row.coded.inj)) };
+    ghost trans = { Prim.search rules };
 
-    ghost keeps = { first_of (Prim.search rules, Prim.grind (arith, Self.row.coded.inj)) };
+    ghost keeps = { Prim.search rules };
 
-    ghost raises = { first_of (Prim.search rules, Prim.grind (arith, Self.row.coded.inj)) };
+    ghost raises = { Prim.search rules };
 
-    ghost silence = { first_of (Prim.search rules, Prim.grind (arith, Self.row.coded.inj)) };
+    ghost silence = { Prim.search rules };
 
-    ghost agrees = { first_of (Prim.search rules, Prim.grind (arith, Self.row.coded.inj)) };
+    ghost agrees = { Prim.search rules };
 
-    ghost differs_one = { first_of (Prim.search rules, Prim.grind (arith, Self.row.coded.inj)) };
+    ghost differs_one = { Prim.search rules };
 
-    ghost differs_zero = { first_of (Prim.search rules, Prim.grind (arith, Self.row.coded.inj)) };
+    ghost differs_zero = { Prim.search rules };
 
-    ghost erased_fit = { first_of (Prim.search rules, Prim.grind (arith, Self.row.coded.inj)) };
+    ghost erased_fit = { Prim.search rules };
 
-    ghost erased_silent = { first_of (Prim.search rules, Prim.grind (arith, Self.row.coded.inj)) };
+    ghost erased_silent = { Prim.search rules };
 
-    ghost clean_fit = { first_of (Prim.search rules, Prim.grind (arith, Self.row.coded.inj)) };
+    ghost clean_fit = { Prim.search rules };
 
     ghost laid = { λ a. let h = a.bound in let k = a.strong in same _ _ (Prim.search rules) (Prim.search rules) };
 
@@ -72,7 +72,7 @@ impl Cost for Ranked {
         (λ e. absurd (never (ranked p.count p.strength) (form_stays p e)))
         (λ e. refl) };
 
-    ghost roomy = { first_of (Prim.search rules, Prim.grind (arith, Self.row.coded.inj)) };
+    ghost roomy = { Prim.search rules };
 
     fn nothing_sample() -> i8 {
         Self::NOTHING

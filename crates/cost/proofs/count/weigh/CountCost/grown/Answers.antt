@@ -19,5 +19,5 @@ only_wrong (suc (suc (suc n))) x f = absurd (omega (arith, leb-true (suc (suc (s
 pub returns : goal.returns
 returns c =
     same _ _
-    (c.saturating-add.ensures
+    (c.saturating_add.ensures
     ∙ ap (λ n. min (c.args.self.value + n) 65535) (only_wrong c.args.s c.args.bit c.requires))
