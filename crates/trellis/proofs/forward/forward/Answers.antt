@@ -37,7 +37,7 @@ step-requires g c =
     record {
       sound = c.requires.sound;
       few = omega arith;
-      coded = (search rules, c.coded-bits-table.ensures);
+      coded = (search rules, c.coded_bits-table.ensures);
       room = (omega arith, (omega arith, row_fits m c.args.steps t early (omega arith)));
       cells = subst (Cells k rows met m t) (turn_even t c.loop-t.first c.loop-t.second c.if-t-eq0.true) c.loop-t.invariant.0;
     }
@@ -54,7 +54,7 @@ step-requires-else-t-eq0 g c =
     record {
       sound = c.requires.sound;
       few = omega arith;
-      coded = (search rules, c.coded-bits-table.ensures);
+      coded = (search rules, c.coded_bits-table.ensures);
       room = (omega arith, (omega arith, row_fits m c.args.steps t early (omega arith)));
       cells = subst (Cells k rows met m t) (turn_odd t c.loop-t.first c.loop-t.second c.if-t-eq0.false) c.loop-t.invariant.0;
     }
@@ -101,6 +101,6 @@ returns g c =
     let cells = subst (λ n. Cells k rows met m n (cond (odd n) second first)) end c.loop-t.invariant.0 in
     record {
       marks = λ t s h f. c.loop-t.invariant.1 t s (omega arith) f;
-      value = c.cost-in.ensures ∙ ap (lifted k) (cell ∙ cells 0 some)
+      value = c.cost_in.ensures ∙ ap (lifted k) (cell ∙ cells 0 some)
           ∙ lifted_kept k rows met g.met.C.Cost.laid (kept_at k rows met m c.args.steps 0);
     }

@@ -6,7 +6,7 @@ use Rattle.trellis.specs.Met.{read}
 use Rattle.trellis.specs.Paths.{grown_by, grown_rows}
 use Rattle.trellis.proofs.Growing.{grown_sent, grown_unsent, rows_left_more}
 use Rattle.trellis.proofs.forward.grow_rows.Goals as goal
-use Rattle.trellis.proofs.forward.grow_rows.Goals.{in-Some, in-default}
+use Rattle.trellis.proofs.forward.grow_rows.Goals.{in-Some, in_default}
 
 pub loop-i-preserved : goal.loop-i-preserved
 loop-i-preserved g c n w h f =
@@ -21,13 +21,13 @@ loop-i-preserved g c n w h f =
     let all : length rows ≡ c.args.code.now.rows = length-take c.args.code.now.rows c.args.code.now.taps ∙ omega arith in
     let at : length rows * t + i ≡ c.args.code.now.rows * t + i = ap (λ r. r * t + i) all in
     let bit : get_or table (32 * i + w) false ≡ x = c.requires.coded n i w (omega arith) (omega arith) f in
-    let grown : get_or c.match-met-at.costs w k.zero ≡ grown_by k before x (read k met (length rows * t + i)) =
-    elim c.match-met-at.branch [
+    let grown : get_or c.match-met_at.costs w k.zero ≡ grown_by k before x (read k met (length rows * t + i)) =
+    elim c.match-met_at.branch [
       | in-Some v ↦ ap (λ cs. get_or cs w k.zero) v.costs-is
           ∙ grown_sent k met (c.args.code.now.rows * t + i) before _ v.weigh-weighed.result (get_or table (32 * i + w) false) x _
-          v.in-Some.ensures v.weigh-weighed.ensures.is bit (v.grow-row.ensures w h)
+          v.in-Some.ensures v.weigh-weighed.ensures.is bit (v.grow_row.ensures w h)
           ∙ sym (ap (λ j. grown_by k before x (read k met j)) at)
-      | in-default v ↦ ap (λ cs. get_or cs w k.zero) v.costs-is
+      | in_default v ↦ ap (λ cs. get_or cs w k.zero) v.costs-is
           ∙ sym (ap (λ j. grown_by k before x (read k met j)) at ∙ grown_unsent k met _ before x v.in-default.ensures)
     ] in
     rows_left_more k (read k met) rows before _ (bits n w) (length rows * t) i (omega arith) grown ∙ c.loop-i.invariant n w h f

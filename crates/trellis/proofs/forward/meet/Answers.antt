@@ -24,7 +24,7 @@ returns-then-whole g c =
     let n = length old in
     let reached = λ (w : ℕ) (h : w / 2 < n). arrived_some (get_or old (w / 2) None) (get_or costs w k.zero) (c.requires.whole c.if-whole.true (w / 2) h) in
     record {
-      cells = λ s h. c.lay-down.ensures s (omega arith) ∙ ap (λ x. Some (k.lay x)) (c.choose.ensures.kept s h)
+      cells = λ s h. c.lay_down.ensures s (omega arith) ∙ ap (λ x. Some (k.lay x)) (c.choose.ensures.kept s h)
           ∙ laid_lower k (get_or costs s k.zero) (get_or costs (s + n) k.zero)
           ∙ sym (ap₂ (λ x y. laid k (lower k x y)) (reached s (omega arith)) (reached (s + n) (omega arith)));
       marks = λ s h. c.choose.ensures.marks s h ∙ sym (ap₂ (mark k) (reached s (omega arith)) (reached (s + n) (omega arith)));

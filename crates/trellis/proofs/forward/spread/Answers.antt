@@ -13,12 +13,12 @@ loop-p-preserved g c =
     let costs = c.loop-p.costs in
     let cell : c.index-old-p.result ≡ get_or old p None = get_or_read old p c.index-old-p.result c.loop-p-test.true c.index-old-p.is None in
     elim c.match-cell.branch [
-      | in-Some w ↦ let cost = w.of-plain-cost.result in
+      | in-Some w ↦ let cost = w.of_plain-cost.result in
           let here : get_or old p None ≡ Some w.in-Some.plain = sym cell ∙ w.in-Some.is in (
             λ v x h e. elim (cases_eq (v / 2) p) [
               | inl f ↦ let same : x ≡ w.in-Some.plain = let d : Some x ≡ Some w.in-Some.plain = sym e ∙ ap (λ q. get_or old q None) f ∙ here in cc in
                   ap (λ cs. get_or cs v k.zero) w.costs-is ∙ window_written costs p v cost k.zero (omega arith) f
-                  ∙ w.of-plain-cost.ensures ∙ ap k.lift (sym same)
+                  ∙ w.of_plain-cost.ensures ∙ ap k.lift (sym same)
               | inr f ↦ ap (λ cs. get_or cs v k.zero) w.costs-is ∙ window_other costs p v cost k.zero f ∙ c.loop-p.invariant.0 v x (omega arith) e
             ],
             λ t q h e. elim (cases_eq q p) [

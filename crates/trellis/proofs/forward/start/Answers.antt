@@ -11,7 +11,7 @@ loop-s-preserved g c =
     let cell = c.if-s-eq0.cell in
     let here : s < length c.loop-s.cells = omega arith in
     let written : cell ≡ first_cell k s = elim c.if-s-eq0.branch [
-      | then-s-eq0 w ↦ w.cell-is ∙ ap Some (w.to-plain.ensures ∙ ap k.lay w.free.ensures)
+      | then-s-eq0 w ↦ w.cell-is ∙ ap Some (w.to_plain.ensures ∙ ap k.lay w.free.ensures)
           ∙ sym (cond-true (eqb s 0) (Some (k.lay k.zero)) None (eq-eqb s 0 w.if-s-eq0.true))
       | else-s-eq0 w ↦ w.cell-is ∙ sym (cond-false (eqb s 0) (Some (k.lay k.zero)) None (ne_eqb s 0 w.if-s-eq0.false))
     ] in

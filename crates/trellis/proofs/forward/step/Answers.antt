@@ -32,10 +32,10 @@ returns g c =
     let met = read k (g.H.Received.met c.args.heard.now) in
     let old = c.args.old.now in
     let spread = c.spread-whole.new.costs in
-    let grown = c.grow-rows.new.costs in
+    let grown = c.grow_rows.new.costs in
     let parts = sound_parts code c.requires.sound in
     let long : length old ≡ 2 ^ m = c.requires.room.0 in
-    let more : Grown k rows met (2 * 2 ^ m) t spread grown = subst (λ n. Grown k rows met (2 * n) t spread grown) long c.grow-rows.ensures in
+    let more : Grown k rows met (2 * 2 ^ m) t spread grown = subst (λ n. Grown k rows met (2 * n) t spread grown) long c.grow_rows.ensures in
     let next = cells_next k rows met g.met.C.Cost.laid m t parts.some_memory parts.taps_below old spread grown c.requires.cells c.spread-whole.ensures.costs more long in
     let marks = marks_next k rows met g.met.C.Cost.laid m t parts.some_memory parts.taps_below old spread grown c.requires.cells c.spread-whole.ensures.costs more long in
     record {

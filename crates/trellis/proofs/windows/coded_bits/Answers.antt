@@ -7,10 +7,10 @@ use Rattle.trellis.proofs.windows.coded_bits.Goals as goal
 pub loop-e-preserved : goal.loop-e-preserved
 loop-e-preserved c =
     let within : c.loop-e.e < length c.loop-e.table = omega arith in (
-      length-set c.loop-e.table c.loop-e.e c.row-bit.result ∙ c.loop-e.invariant.0,
+      length-set c.loop-e.table c.loop-e.e c.row_bit.result ∙ c.loop-e.invariant.0,
       below_more _ _
-          (λ k h n f. let ne : k ≢ c.loop-e.e = omega arith in get_or-set_other c.loop-e.table c.loop-e.e k c.row-bit.result false ne ∙ c.loop-e.invariant.1 k h n f)
-          (λ n f. get_or-set_same c.loop-e.table c.loop-e.e c.row-bit.result false within ∙ c.row-bit.ensures n f),
+          (λ k h n f. let ne : k ≢ c.loop-e.e = omega arith in get_or-set_other c.loop-e.table c.loop-e.e k c.row_bit.result false ne ∙ c.loop-e.invariant.1 k h n f)
+          (λ n f. get_or-set_same c.loop-e.table c.loop-e.e c.row_bit.result false within ∙ c.row_bit.ensures n f),
     )
 
 pub returns : goal.returns
