@@ -10,7 +10,7 @@ use Rattle.trellis.specs.Codes.{summed}
 use Rattle.trellis.specs.Coding.{packed, entered}
 use Rattle.trellis.specs.Paths.{register}
 use Rattle.trellis.proofs.Bitwise.{bit_below, bit_of_odd, byte_bit, half_below, min_bits, odd_add, ones_none}
-use Rattle.trellis.proofs.Registers.{summed_none, summed_same}
+use Rattle.trellis.proofs.Registers.{summed_none}
 
 -- the newest bit of a window against the newest tap, and the rest
 chosen_step :

@@ -1,5 +1,5 @@
 -- The cost of a path. A path is a list of bits, the newest first.
-use Rattle.std.specs.Prelude.{ℕ, zero, suc, ◌*◌, Bool, true, false, List, [], ◌∷◌, length}
+use Rattle.std.specs.Prelude.{ℕ, zero, suc, ◌*◌, Bool, false, List, [], ◌∷◌, length}
 use Rattle.cost.specs.declared.kind.Cost.{Ghosts}
 use Rattle.trellis.specs.Bits.{xor}
 use Rattle.trellis.specs.Codes.{summed}

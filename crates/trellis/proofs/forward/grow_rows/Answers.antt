@@ -28,7 +28,7 @@ loop-i-preserved g c n w h f =
           v.in-Some.ensures v.weigh-weighed.ensures.is bit (v.grow_row.ensures w h)
           ∙ sym (ap (λ j. grown_by k before x (read k met j)) at)
       | in_default v ↦ ap (λ cs. get_or cs w k.zero) v.costs-is
-          ∙ sym (ap (λ j. grown_by k before x (read k met j)) at ∙ grown_unsent k met _ before x v.in-default.ensures)
+          ∙ sym (ap (λ j. grown_by k before x (read k met j)) at ∙ grown_unsent k met _ before x v.in_default.ensures)
     ] in
     rows_left_more k (read k met) rows before _ (bits n w) (length rows * t) i (omega arith) grown ∙ c.loop-i.invariant n w h f
 

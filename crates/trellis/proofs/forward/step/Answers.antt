@@ -10,8 +10,8 @@ pub spread-whole-requires : goal.spread-whole-requires
 spread-whole-requires g c =
     let h = (sound_parts c.args.code.now c.requires.sound).registers_few in record { few = omega arith; room = search rules }
 
-pub grow-rows-requires : goal.grow-rows-requires
-grow-rows-requires g c =
+pub grow_rows-requires : goal.grow_rows-requires
+grow_rows-requires g c =
     let parts = sound_parts c.args.code.now c.requires.sound in
     let h = parts.registers_few in
     record { few = (parts.rows_few, (c.requires.few, omega arith)); room = (omega arith, c.requires.coded.0); coded = c.requires.coded.1 }

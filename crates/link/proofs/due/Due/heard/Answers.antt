@@ -2,7 +2,7 @@ use Rattle.std.proofs.Common.{◌≡◌, ℕ, suc, ◌+◌, Bool, true, false, c
 use Rattle.cost.specs.declared.kind.Cost.{Ghosts}
 use Rattle.link.specs.Due.{in_ring, heard_of}
 use Rattle.link.proofs.due.Due.heard.Goals as goal
-use Rattle.link.proofs.due.Due.heard.Goals.{then-not-is-silent, else-not-is-silent}
+use Rattle.link.proofs.due.Due.heard.Goals.{then-not-is_silent, else-not-is_silent}
 
 -- the count with one place more
 heard_more : {C S P : Type 0} (k : Ghosts C S P) (due : ℕ → S) (n count : ℕ) (b : Bool) → k.silent (due n) ≡ b → count ≡ heard_of k due n →
@@ -14,13 +14,13 @@ loop-place-preserved g c =
     let k = g.C.Cost in
     let s = c.args.self.now in
     let due = in_ring k s.format.now s.ring.now s.block in
-    let tells : (b : Bool) → c.is-silent.result ≡ b → k.silent (due c.loop-place.place) ≡ b =
-    λ b e. sym (c.is-silent.ensures ∙ ap k.silent c.sample.ensures) ∙ e in
-    elim c.if-not-is-silent.branch [
-      | then-not-is-silent w ↦
-          let e = heard_more k due c.loop-place.place c.loop-place.count false (tells false w.if-not-is-silent.true) c.loop-place.invariant.0 in
+    let tells : (b : Bool) → c.is_silent.result ≡ b → k.silent (due c.loop-place.place) ≡ b =
+    λ b e. sym (c.is_silent.ensures ∙ ap k.silent c.sample.ensures) ∙ e in
+    elim c.if-not-is_silent.branch [
+      | then-not-is_silent w ↦
+          let e = heard_more k due c.loop-place.place c.loop-place.count false (tells false w.if-not-is_silent.true) c.loop-place.invariant.0 in
           (w.count-is ∙ e, omega (arith, w.count-is))
-      | else-not-is-silent w ↦
-          let e = heard_more k due c.loop-place.place c.loop-place.count true (tells true w.if-not-is-silent.false) c.loop-place.invariant.0 in
+      | else-not-is_silent w ↦
+          let e = heard_more k due c.loop-place.place c.loop-place.count true (tells true w.if-not-is_silent.false) c.loop-place.invariant.0 in
           (omega (arith, w.count-is, e), omega (arith, w.count-is))
     ]

@@ -5,7 +5,7 @@ use Rattle.link.proofs.receiver.Receiver.open.Goals as goal
 
 pub returns : goal.returns
 returns g c =
-    let agreed = c.in-ok-format.ensures in
+    let agreed = c.in_ok-format.ensures in
     record {
       rules = agreed.0;
       format = agreed.1;

@@ -12,15 +12,15 @@ fit_more k ss i s b h e f =
     at_drop_more (all_fit k i) ss i s h
     ∙ ap₂ (λ (t : Bool) n. cond t (all_fit k n (drop (i + 1) ss)) (Some (UnfitSample i))) (ap k.fit (sym e) ∙ f) (sym (add-one i))
 
-pub returns-then-not-is-fit : goal.returns-then-not-is-fit
-returns-then-not-is-fit g c =
+pub returns-then-not-is_fit : goal.returns-then-not-is_fit
+returns-then-not-is_fit g c =
     ap passed (sym (fit_more g.C.Cost c.args.samples.now c.loop-place.place c.index-samples-place.result false
-    c.loop-place-test.true c.index-samples-place.is (sym c.if-not-is-fit.ensures)) ∙ c.loop-place.invariant)
+    c.loop-place-test.true c.index-samples-place.is (sym c.if-not-is_fit.ensures)) ∙ c.loop-place.invariant)
 
 pub loop-place-preserved : goal.loop-place-preserved
 loop-place-preserved g c =
     sym (fit_more g.C.Cost c.args.samples.now c.loop-place.place c.index-samples-place.result true
-    c.loop-place-test.true c.index-samples-place.is (sym c.is-fit.ensures ∙ c.if-not-is-fit.false)) ∙ c.loop-place.invariant
+    c.loop-place-test.true c.index-samples-place.is (sym c.is_fit.ensures ∙ c.if-not-is_fit.false)) ∙ c.loop-place.invariant
 
 pub returns : goal.returns
 returns g c =

@@ -11,5 +11,5 @@ returns-else-format-eq0 g c path long traced =
     let f = c.args.format.now in
     let paths = c.args.paths.now in
     let n : f.message + f.parity - 0 ≡ f.message + f.parity = omega arith in
-    ap (λ r. eqb r 0) (c.remainder-of.ensures ∙ ap (λ m. remainder (reverse (map odd (take m paths)))) n ∙ front_remainder f paths path traced long)
+    ap (λ r. eqb r 0) (c.remainder_of.ensures ∙ ap (λ m. remainder (reverse (map odd (take m paths)))) n ∙ front_remainder f paths path traced long)
     ∙ sym (ap (λ t. t || eqb (remainder (protected f path)) 0) (ne_eqb f.parity 0 c.if-format-eq0.false))

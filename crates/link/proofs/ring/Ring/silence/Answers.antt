@@ -5,5 +5,5 @@ use Rattle.link.proofs.ring.Ring.silence.Goals as goal
 pub overflow-mul-at : goal.overflow-mul-at
 overflow-mul-at g c = omega (arith, burst_within c.args.n c.args.self.now.depth c.args.self.now.burst c.requires.deep)
 
-pub lay-same-requires : goal.lay-same-requires
-lay-same-requires g c = omega (arith, burst_within c.args.n c.args.self.now.depth c.args.self.now.burst c.requires.deep)
+pub lay_same-requires : goal.lay_same-requires
+lay_same-requires g c = omega (arith, burst_within c.args.n c.args.self.now.depth c.args.self.now.burst c.requires.deep)
