@@ -6,8 +6,8 @@ use Rattle.cost.specs.SameCount as count
 use Rattle.cost.specs.SameRanked as rank
 use Rattle.cost.specs.Counting.{clean_byte, counted}
 use Rattle.cost.specs.Ranking.{ranked}
-use Rattle.cost.specs.contracts.count.weigh.CountCost.TheImpl.{ghosts as count-kind}
-use Rattle.cost.specs.contracts.ranked.weigh.RankedCost.TheImpl.{ghosts as ranked-kind}
+use Rattle.cost.specs.contracts.count.weigh.CountCost.TheImpl.{ghosts as count_kind}
+use Rattle.cost.specs.contracts.ranked.weigh.RankedCost.TheImpl.{ghosts as ranked_kind}
 use Rattle.line.specs.Interleaver.{interleaved, moved}
 use Rattle.line.specs.Scrambler.{sum}
 use Rattle.trellis.specs.Coding.{coded_bit}
@@ -50,32 +50,32 @@ sends : Carries bench_terms run burst
 sends = record { whole = refl; bits = λ j k turned e. subst (Sent j) e (sent j) }
 
 -- counted, 000000 costs 3
-counts_zeros : bench_cost count-kind clean_byte (written 6 0b000000) ≡ counted 3
+counts_zeros : bench_cost count_kind clean_byte (written 6 0b000000) ≡ counted 3
 unfolding cost_of
 counts_zeros = count.same _ _ refl
 
 -- counted, 110000 costs 3
-counts_ones : bench_cost count-kind clean_byte (written 6 0b110000) ≡ counted 3
+counts_ones : bench_cost count_kind clean_byte (written 6 0b110000) ≡ counted 3
 unfolding cost_of
 counts_ones = count.same _ _ refl
 
 -- ranked, 000000 costs 3 samples of strength 150
-ranks_zeros : bench_cost ranked-kind level (written 6 0b000000) ≡ ranked 3 150
+ranks_zeros : bench_cost ranked_kind level (written 6 0b000000) ≡ ranked 3 150
 unfolding cost_of
 ranks_zeros = rank.same _ _ refl refl
 
 -- ranked, 110000 costs 3 samples of strength 30
-ranks_ones : bench_cost ranked-kind level (written 6 0b110000) ≡ ranked 3 30
+ranks_ones : bench_cost ranked_kind level (written 6 0b110000) ≡ ranked 3 30
 unfolding cost_of
 ranks_ones = rank.same _ _ refl refl
 
 -- counted, the answer is the path of 000000
-counts_answer : bench_answer count-kind clean_byte ≡ Some (bench_path (written 6 0b000000))
+counts_answer : bench_answer count_kind clean_byte ≡ Some (bench_path (written 6 0b000000))
 unfolding cost_of survivor
 counts_answer = refl
 
 -- ranked, the answer is the path of 110000
-ranks_answer : bench_answer ranked-kind level ≡ Some (bench_path (written 6 0b110000))
+ranks_answer : bench_answer ranked_kind level ≡ Some (bench_path (written 6 0b110000))
 unfolding cost_of survivor
 ranks_answer = refl
 

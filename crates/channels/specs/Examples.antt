@@ -3,8 +3,8 @@ use Rattle.std.specs.Prelude.{◌≡◌, ℕ, Bool, true, false, List, ◌++◌,
 use Rattle.std.specs.List.{range_with_len}
 use Rattle.cost.specs.Counting.{clean_byte, counted}
 use Rattle.cost.specs.Ranking.{ranked}
-use Rattle.cost.specs.contracts.count.weigh.CountCost.TheImpl.{ghosts as count-kind}
-use Rattle.cost.specs.contracts.ranked.weigh.RankedCost.TheImpl.{ghosts as ranked-kind}
+use Rattle.cost.specs.contracts.count.weigh.CountCost.TheImpl.{ghosts as count_kind}
+use Rattle.cost.specs.contracts.ranked.weigh.RankedCost.TheImpl.{ghosts as ranked_kind}
 use Rattle.cost.specs.declared.kind.Cost as cost
 use Rattle.line.specs.Interleaver.{moved}
 use Rattle.puncture.specs.Patterns.{numbered}
@@ -87,14 +87,14 @@ pub record WorkedExamples : Type 0 where
   -- and is sent as 1010100010100000
   pub sends : Carries bench_terms (written 6 0b100000) (written 16 0b1010100010100000)
   -- 1000000000100010 heard and counted: 000000 costs 3
-  pub counts_zeros : bench_cost count-kind clean_byte (written 6 0b000000) ≡ counted 3
+  pub counts_zeros : bench_cost count_kind clean_byte (written 6 0b000000) ≡ counted 3
   -- 110000 costs 3 too
-  pub counts_ones : bench_cost count-kind clean_byte (written 6 0b110000) ≡ counted 3
+  pub counts_ones : bench_cost count_kind clean_byte (written 6 0b110000) ≡ counted 3
   -- and the tie goes to 000000
-  pub counts_answer : bench_answer count-kind clean_byte ≡ Some (bench_path (written 6 0b000000))
+  pub counts_answer : bench_answer count_kind clean_byte ≡ Some (bench_path (written 6 0b000000))
   -- the same heard and ranked, with strength 50 where a one is heard and 10 elsewhere: 000000 costs 3 samples of strength 150
-  pub ranks_zeros : bench_cost ranked-kind level (written 6 0b000000) ≡ ranked 3 150
+  pub ranks_zeros : bench_cost ranked_kind level (written 6 0b000000) ≡ ranked 3 150
   -- 110000 costs 3 samples of strength 30
-  pub ranks_ones : bench_cost ranked-kind level (written 6 0b110000) ≡ ranked 3 30
+  pub ranks_ones : bench_cost ranked_kind level (written 6 0b110000) ≡ ranked 3 30
   -- and is the answer
-  pub ranks_answer : bench_answer ranked-kind level ≡ Some (bench_path (written 6 0b110000))
+  pub ranks_answer : bench_answer ranked_kind level ≡ Some (bench_path (written 6 0b110000))

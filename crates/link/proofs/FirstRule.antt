@@ -1,7 +1,7 @@
 -- What the first broken rule of a call tells, and what a burst is where no rule is broken.
 use Rattle.std.proofs.Common.{◌≡◌, ℕ, zero, suc, ◌*◌, ◌≤◌, Bool, true, false, cond, eqb, List, [], ◌∷◌, ◌++◌, length, replicate, Some, None, Ok, Err, Option, refl, arith}
 use lib.ListN.{length-replicate}
-use Rattle.std.specs.List.{AllByRecursion as All}
+use Rattle.std.specs.List.{AllByRecursion}
 use Rattle.std.proofs.lemmas.Bool.{leb-true, eqb-true}
 use Rattle.cost.specs.declared.kind.Cost as cost
 use Rattle.cost.proofs.Lawful.{Laws}
@@ -18,7 +18,7 @@ module _ {X : Type 0} where
   Tells has (Some x) = has x
 
   -- a property of all that the rules tell is one of what the first broken rule tells
-  first_tells : (has : X → Type 0) (rules : List (Option X)) → All (Tells has) rules → Tells has (first rules)
+  first_tells : (has : X → Type 0) (rules : List (Option X)) → AllByRecursion (Tells has) rules → Tells has (first rules)
   first_tells has [] all = tt
   first_tells has (Some x ∷ rules) all = all.0
   first_tells has (None ∷ rules) all = first_tells has rules all.1
@@ -29,7 +29,7 @@ module _ {X : Type 0} where
   unless_tells has false x h = h
 
   -- what holds of x holds of each in a list of nothing but x
-  all_replicate : (has : X → Type 0) (n : ℕ) (x : X) → has x → All has (replicate n x)
+  all_replicate : (has : X → Type 0) (n : ℕ) (x : X) → has x → AllByRecursion has (replicate n x)
   all_replicate has zero x h = tt
   all_replicate has (suc n) x h = (h, all_replicate has n x h)
 
@@ -38,7 +38,7 @@ module _ {X : Type 0} where
   some_none e = let z : ◌≡◌ {A = ℕ} 0 1 = cc in omega arith
 
   -- where no rule is the first broken one, none is broken
-  first_none : (rules : List (Option X)) → first rules ≡ None → All (λ rule. rule ≡ None) rules
+  first_none : (rules : List (Option X)) → first rules ≡ None → AllByRecursion (λ rule. rule ≡ None) rules
   first_none [] e = tt
   first_none (Some x ∷ rules) e = absurd (some_none e)
   first_none (None ∷ rules) e = (refl, first_none rules e)
@@ -69,12 +69,12 @@ module _ {C S P : Type 0} where
       by_test false h = refl
 
   -- where none is told to be unfit, all are fit
-  all_fit_none : (k : cost.Ghosts C S P) (place : ℕ) (samples : List S) → all_fit k place samples ≡ None → All (λ s. k.fit s ≡ true) samples
+  all_fit_none : (k : cost.Ghosts C S P) (place : ℕ) (samples : List S) → all_fit k place samples ≡ None → AllByRecursion (λ s. k.fit s ≡ true) samples
   all_fit_none k place [] e = tt
   all_fit_none k place (s ∷ ss) e = by_test (k.fit s) refl e (all_fit_none k (suc place) ss)
     where
       by_test : (t : Bool) → k.fit s ≡ t → cond t (all_fit k (suc place) ss) (Some (UnfitSample place)) ≡ None →
-          (all_fit k (suc place) ss ≡ None → All (λ s. k.fit s ≡ true) ss) → (k.fit s ≡ true) × All (λ s. k.fit s ≡ true) ss
+          (all_fit k (suc place) ss ≡ None → AllByRecursion (λ s. k.fit s ≡ true) ss) → (k.fit s ≡ true) × AllByRecursion (λ s. k.fit s ≡ true) ss
       by_test true q e next = (q, next e)
       by_test false q e next = absurd (some_none e)
 
@@ -83,7 +83,7 @@ module _ {C S P L : Type 0} (k : cost.Ghosts C S P) (f : Format L) where
   pub record Storable (size : ℕ) (samples : List S) : Type 0 where
     pub enough : f.depth * f.burst ≤ size
     pub whole : length samples ≡ f.burst
-    pub fit : All (λ s. k.fit s ≡ true) samples
+    pub fit : AllByRecursion (λ s. k.fit s ≡ true) samples
 
   -- the rules of a call that offers a burst: none is of parity, and where none is broken the burst can be taken in
   pub record Guards (size : ℕ) (samples : List S) (broken : Option (Refusal C S P)) : Type 0 where

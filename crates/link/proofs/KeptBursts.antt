@@ -1,7 +1,7 @@
 -- The ring keeps the last bursts counted, so what is due to a block can be read in the ring as in the list of bursts.
 use Rattle.std.proofs.Common.{◌≡◌, ℕ, ◌+◌, ◌<◌, ◌≤◌, Bool, true, ltb, List, [], ◌∷◌, ◌++◌, length, get_or, Some, None, Option, sym, ap, ◌∙◌, inl, inr, arith}
 use mathlib.Core.Path.{fun_ext}
-use Rattle.std.specs.List.{AllByRecursion as All}
+use Rattle.std.specs.List.{AllByRecursion}
 use Rattle.std.proofs.lemmas.Nat.{mod_below}
 use Rattle.std.proofs.ByRecursion.{All-get_or, All-append}
 use Rattle.std.proofs.lemmas.List.{get_or_append_left, get_or_past, get_or_push, length_push}
@@ -20,14 +20,14 @@ use Rattle.link.proofs.Rings.{stored_own, stored_other}
 pub met_fit : {C S P L : Type 0} (k : cost.Ghosts C S P) (l : line.Ghosts L) (x : L) (due : ℕ → S) → ((p : ℕ) → k.fit (due p) ≡ true) → Fit k (met_on l x due)
 met_fit k l x due fit j = by_place (l.place x j)
   where
-    by_place : (at : Option (ℕ × Bool)) → All (λ m. k.fit m.0 ≡ true) (placed l due at)
+    by_place : (at : Option (ℕ × Bool)) → AllByRecursion (λ m. k.fit m.0 ≡ true) (placed l due at)
     by_place None = tt
     by_place (Some (p, turned)) = (fit p, tt)
 
 module _ {C S P L : Type 0} (k : cost.Ghosts C S P) (l : line.Ghosts L) (f : Format L) where
   -- a whole burst of fit samples
   abbrev Whole : List S → Type 0
-  Whole burst = (length burst ≡ f.burst) × All (λ s. k.fit s ≡ true) burst
+  Whole burst = (length burst ≡ f.burst) × AllByRecursion (λ s. k.fit s ≡ true) burst
 
   -- every burst counted is whole and fit, and the ring keeps the last `depth` of them
   pub record Keeps (ring : List S) (bursts : List (List S)) : Type 0 where

@@ -1,6 +1,6 @@
 -- Histories of a receiver, and what is claimed of every one of them.
 use Rattle.std.specs.Prelude.{◌≡◌, ℕ, ◌+◌, ◌<◌, ◌≤◌, Bool, true, false, cond, ◌⊎◌, List, [], ◌∷◌, ◌++◌, reverse, length, replicate, Some, None, Ok, Err, Option, Result, ◌==◌}
-use Rattle.std.specs.List.{AllByRecursion as All}
+use Rattle.std.specs.List.{AllByRecursion}
 use Rattle.cost.specs.declared.kind.Cost as cost
 use Rattle.line.specs.declared.laying.Line as line
 use Rattle.link.specs.declared.format.Format.{Format}
@@ -77,7 +77,7 @@ module _ {C S P L : Type 0} (k : cost.Ghosts C S P) (l : line.Ghosts L) where
 
   -- each is a whole burst of fit samples
   abbrev pub WholeBursts : Format L → List (List S) → Type 0
-  WholeBursts f bursts = All (λ burst. (length burst ≡ f.burst) × All (λ s. k.fit s ≡ true) burst) bursts
+  WholeBursts f bursts = AllByRecursion (λ burst. (length burst ≡ f.burst) × AllByRecursion (λ s. k.fit s ≡ true) burst) bursts
 
   -- every history of a receiver that was opened is sound, whatever call comes next
   pub record AllSound (opened : Receiver C L S P) : Type 0 where

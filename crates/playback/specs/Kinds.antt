@@ -1,7 +1,7 @@
 -- The kinds of cost that a recording may be heard with: how each reads a byte, and how its costs are written.
 use Rattle.std.specs.Prelude.{ℕ, ◌-◌, cond, List, ◌++◌, ℤ, pos, negsuc, codes, decimal, nat_lt}
-use Rattle.cost.specs.contracts.count.weigh.CountCost.TheImpl.{ghosts as count-kind}
-use Rattle.cost.specs.contracts.ranked.weigh.RankedCost.TheImpl.{ghosts as ranked-kind}
+use Rattle.cost.specs.contracts.count.weigh.CountCost.TheImpl.{ghosts as count_kind}
+use Rattle.cost.specs.contracts.ranked.weigh.RankedCost.TheImpl.{ghosts as ranked_kind}
 use Rattle.cost.specs.declared.count.Count.{Count}
 use Rattle.cost.specs.declared.kind.Cost.{Ghosts}
 use Rattle.cost.specs.declared.ranked.Ranked.{Ranked}
@@ -32,5 +32,5 @@ ranked_figures c = decimal c.count ++ (codes "/" ++ decimal c.strength)
 
 -- the count kind reads a byte as it is, the ranked kind in two's complement
 abbrev pub weighing : Kind → Weighing
-weighing kinds.Count = record { C = Count; S = ℕ; P = ℕ; kind = count-kind; sample = λ byte. byte; figures = count_figures }
-weighing kinds.Ranked = record { C = Ranked; S = ℤ; P = RankedForm; kind = ranked-kind; sample = signed; figures = ranked_figures }
+weighing kinds.Count = record { C = Count; S = ℕ; P = ℕ; kind = count_kind; sample = λ byte. byte; figures = count_figures }
+weighing kinds.Ranked = record { C = Ranked; S = ℤ; P = RankedForm; kind = ranked_kind; sample = signed; figures = ranked_figures }

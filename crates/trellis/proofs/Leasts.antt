@@ -1,7 +1,7 @@
 -- No path costs less than the survivor of its register, from the laws of a cost.
 use Rattle.std.proofs.Common.{◌≡◌, ℕ, zero, suc, ◌+◌, ◌-◌, ◌*◌, ◌^◌, ◌<◌, ◌≤◌, Bool, true, false, ltb, List, [], ◌∷◌, ◌++◌, length, get_or, replicate, Some, None, Option, refl, ap, add-one, arith, length-append}
 use lib.ListN.{length-replicate}
-use Rattle.std.specs.List.{AllByRecursion as All}
+use Rattle.std.specs.List.{AllByRecursion}
 use Rattle.std.proofs.lemmas.Bool.{and_parts, cond-true, cond_both, ltb-true}
 use Rattle.cost.specs.declared.kind.Cost.{Ghosts}
 use Rattle.cost.proofs.Lawful.{Laws, le_refl}
@@ -41,7 +41,7 @@ module _ {C S P : Type 0} {k : Ghosts C S P} (laws : Laws k) (rows : List ℕ) (
   extended_meets t b true r p e = rw e (kept_second (extended b (survivor k rows met t (r ++ false ∷ []))) (b ∷ p))
 
   -- what one coded bit meets keeps the order of two costs
-  grown_by_keeps : (x : Bool) (ms : List (S × Bool)) → All (λ m. k.fit m.0 ≡ true) ms → (c d : C) →
+  grown_by_keeps : (x : Bool) (ms : List (S × Bool)) → AllByRecursion (λ m. k.fit m.0 ≡ true) ms → (c d : C) →
       k.le c d ≡ true → k.le (grown_by k c x ms) (grown_by k d x ms) ≡ true
   grown_by_keeps x [] f c d h = h
   grown_by_keeps x ((s, turned) ∷ ms) f c d h = grown_by_keeps x ms f.1 _ _ (laws.keeps c d s (xor x turned) f.0 h)

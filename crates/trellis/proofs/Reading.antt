@@ -1,6 +1,6 @@
 -- Unfit samples read as nothing, and what is met known by its places.
 use Rattle.std.proofs.Common.{◌≡◌, ℕ, Bool, true, List, [], ◌∷◌, map, refl}
-use Rattle.std.specs.List.{AllByRecursion as All}
+use Rattle.std.specs.List.{AllByRecursion}
 use Rattle.std.proofs.lemmas.Bool.{cond-true, cond_both}
 use Rattle.cost.specs.declared.kind.Cost.{Ghosts}
 use Rattle.cost.proofs.Lawful.{Laws}
@@ -19,7 +19,7 @@ module _ {C S P : Type 0} (k : Ghosts C S P) where
   pub read_same : (met : ℕ → List (S × Bool)) → Fit k met → (j : ℕ) → read k met j ≡ met j
   read_same met fit j = each (met j) (fit j)
     where
-      each : (ms : List (S × Bool)) → All (λ m. k.fit m.0 ≡ true) ms → map (λ m. (weighed k m.0, m.1)) ms ≡ ms
+      each : (ms : List (S × Bool)) → AllByRecursion (λ m. k.fit m.0 ≡ true) ms → map (λ m. (weighed k m.0, m.1)) ms ≡ ms
       each [] f = refl
       each ((s, turned) ∷ ms) f = λ i. (weighed_same s f.0 i, turned) ∷ each ms f.1 i
 
@@ -32,6 +32,6 @@ module _ {C S P : Type 0} {k : Ghosts C S P} (laws : Laws k) where
   pub read_fit : (met : ℕ → List (S × Bool)) → Fit k (read k met)
   read_fit met j = each (met j)
     where
-      each : (ms : List (S × Bool)) → All {X = S × Bool} (λ m. k.fit m.0 ≡ true) (map (λ m. (weighed k m.0, m.1)) ms)
+      each : (ms : List (S × Bool)) → AllByRecursion {X = S × Bool} (λ m. k.fit m.0 ≡ true) (map (λ m. (weighed k m.0, m.1)) ms)
       each [] = tt
       each ((s, turned) ∷ ms) = (weighed_fit s, each ms)

@@ -1,6 +1,6 @@
 -- What a coded bit meets: the samples of the places that carry it, each with whether the bit was turned over there.
 use Rattle.std.specs.Prelude.{◌≡◌, ℕ, Bool, true, cond, List, [], ◌∷◌, map, Some, None, Option}
-use Rattle.std.specs.List.{AllByRecursion as All}
+use Rattle.std.specs.List.{AllByRecursion}
 use Rattle.cost.specs.declared.kind.Cost.{Ghosts}
 
 -- none, or the one
@@ -19,4 +19,4 @@ module _ {C S P : Type 0} (k : Ghosts C S P) where
 
   -- each sample met is fit
   abbrev pub Fit : (ℕ → List (S × Bool)) → Type 0
-  Fit met = (j : ℕ) → All (λ m. k.fit m.0 ≡ true) (met j)
+  Fit met = (j : ℕ) → AllByRecursion (λ m. k.fit m.0 ≡ true) (met j)
