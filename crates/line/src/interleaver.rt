@@ -1,6 +1,8 @@
 // The interleaver over any line: rows of eight bits are sent column by column.
 ghost use Rattle.std.specs.Prelude.{◌≡◌, ◌&&◌};
 ghost use Rattle.line.specs.Interleaver.{whole_rows, moved, interleaved};
+ghost use Rattle.line.specs.Lawful.{laws_of};
+ghost use Rattle.line.specs.LinesLemmas.{interleaved_laws};
 
 use crate::laying::Line;
 
@@ -19,6 +21,14 @@ impl<L: Line> Line for Interleaved<L> {
     ghost suited = { λ l. L.Line.suited l.0 && whole_rows (L.Line.sent l.0) };
 
     ghost place = { λ l j. interleaved (L.Line.sent l.0) (L.Line.place l.0 j) };
+
+    ghost within = { (interleaved_laws (laws_of L.Line)).within };
+
+    ghost apart = { (interleaved_laws (laws_of L.Line)).apart };
+
+    ghost filled = { (interleaved_laws (laws_of L.Line)).filled };
+
+    ghost ended = { (interleaved_laws (laws_of L.Line)).ended };
 
     fn coded_bits(&self) -> usize {
         self.0.coded_bits()

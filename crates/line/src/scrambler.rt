@@ -1,5 +1,7 @@
 // The scrambler over any line: bits are turned over where the masking sequence has a one.
 ghost use Rattle.std.specs.Prelude.{◌≡◌, ◌<◌, Bool, false, List, slice_index_or};
+ghost use Rattle.line.specs.Lawful.{laws_of};
+ghost use Rattle.line.specs.LinesLemmas.{scrambled_laws};
 ghost use Rattle.line.specs.Scrambler.{masking, number, register, scrambled, value};
 
 use crate::laying::Line;
@@ -38,6 +40,14 @@ impl<L: Line> Line for Scrambled<L> {
     ghost suited = { λ l. L.Line.suited l.0 };
 
     ghost place = { λ l j. scrambled (L.Line.place l.0 j) };
+
+    ghost within = { (scrambled_laws (laws_of L.Line)).within };
+
+    ghost apart = { (scrambled_laws (laws_of L.Line)).apart };
+
+    ghost filled = { (scrambled_laws (laws_of L.Line)).filled };
+
+    ghost ended = { (scrambled_laws (laws_of L.Line)).ended };
 
     fn coded_bits(&self) -> usize {
         self.0.coded_bits()

@@ -1,4 +1,4 @@
-use Rattle.std.proofs.Common.{◌≡◌, ◌/◌, ◌%◌, ◌^◌, eqb, ap, ◌∙◌}
+use Rattle.std.proofs.Common.{◌/◌, ◌%◌, ◌^◌, eqb, ap, ◌∙◌}
 use lib.Bits.{and_mask}
 use Rattle.line.proofs.Registers.{number_at}
 use Rattle.line.proofs.scrambler.bit.Goals as goal
