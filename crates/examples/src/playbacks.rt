@@ -8,16 +8,16 @@ mod faults;
 mod marks;
 mod refusals;
 
-fn prints(rt: &HostRuntime, bytes: &[u8], lines: &str) -> Result<(), Fail> {
-    let played = play(rt.alloc(), bytes)?;
-    assert_eq!(played.as_str(), lines);
+fn prints(rt: &impl Abort, alloc: Global, bytes: &[u8], lines: &str) -> Result<(), Fail> {
+    let played = play(alloc, bytes)?;
+    assert_eq!(rt; played.as_str(), lines);
     Ok(())
 }
 
 // Recordings, each beside its lines.
-fn each_prints(rt: &HostRuntime, cases: &[(&[u8], &str)]) -> Result<(), Fail> {
+fn each_prints(rt: &impl Abort, alloc: Global, cases: &[(&[u8], &str)]) -> Result<(), Fail> {
     for (bytes, lines) in cases {
-        prints(rt, bytes, lines)?;
+        prints(rt, alloc, bytes, lines)?;
     }
     Ok(())
 }
@@ -39,10 +39,10 @@ const COUNT: [u8; 2] = [0, 1];
 const RANKED: [u8; 2] = [0x7F, 0x81];
 
 // What the parts and the texts together spell.
-fn plays(rt: &HostRuntime, parts: &[Part<'_>], texts: &[&str]) -> Result<(), Fail> {
-    let bytes = recorded(rt.alloc(), parts)?;
-    let lines = joined(rt.alloc(), texts)?;
-    prints(rt, &bytes, lines.as_str())
+fn plays(rt: &impl Abort, alloc: Global, parts: &[Part<'_>], texts: &[&str]) -> Result<(), Fail> {
+    let bytes = recorded(alloc, parts)?;
+    let lines = joined(alloc, texts)?;
+    prints(rt, alloc, &bytes, lines.as_str())
 }
 
 fn recorded(heap: Global, parts: &[Part<'_>]) -> Result<Vec<u8>, AllocError> {

@@ -1,68 +1,67 @@
 // Recordings, and the lines that playing them makes.
 use recording::play::play;
+use std::alloc::Global;
 use std::test::*;
 
-fn prints(rt: &HostRuntime, bytes: &[u8], lines: &str) -> Result<(), Fail> {
-    let played = play(rt.alloc(), bytes)?;
-    assert_eq!(played.as_str(), lines);
+fn prints(rt: &impl Abort, alloc: Global, bytes: &[u8], lines: &str) -> Result<(), Fail> {
+    let played = play(alloc, bytes)?;
+    assert_eq!(rt; played.as_str(), lines);
     Ok(())
 }
 
 #[test]
 fn no_bytes_no_lines(rt: HostRuntime) -> Result<(), Fail> {
-    prints(&rt, b"", "")
+    prints(&rt, rt.alloc(), b"", "")
 }
 
 #[test]
 fn a_burst_heard_missed_and_short(rt: HostRuntime) -> Result<(), Fail> {
     let bytes =
         b"OP\x00\x00HE\x00\x10\x01\x00\x00\x00\x01\x00\x00\x00\x01\x00\x01\x00\x00\x00\x00\x00MIHE\x00\x01\x02";
-    prints(&rt, bytes, "O 0\nB 0 1 16 100000\nB 1 0 0 000000\nX 6 1\n")
+    prints(&rt, rt.alloc(), bytes, "O 0\nB 0 1 16 100000\nB 1 0 0 000000\nX 6 1\n")
 }
 
 #[test]
 fn only_an_opening_comes_first(rt: HostRuntime) -> Result<(), Fail> {
-    prints(&rt, b"MIOP\x00\x00", "X 12 0\n")
+    prints(&rt, rt.alloc(), b"MIOP\x00\x00", "X 12 0\n")
 }
 
 #[test]
 fn unknown_marks_channels_and_kinds(rt: HostRuntime) -> Result<(), Fail> {
-    prints(&rt, b"OP\x00\x00REMOMI", "O 0\nR\nX 12 6\n")?;
-    prints(&rt, b"OP\x01\x00MI", "X 12 0\n")?;
-    prints(&rt, b"OP\x00\x00OP\x00\x01", "O 0\nX 12 4\n")
+    prints(&rt, rt.alloc(), b"OP\x00\x00REMOMI", "O 0\nR\nX 12 6\n")?;
+    prints(&rt, rt.alloc(), b"OP\x01\x00MI", "X 12 0\n")?;
+    prints(&rt, rt.alloc(), b"OP\x00\x00OP\x00\x01", "O 0\nX 12 4\n")
 }
 
 #[test]
 fn cut_records(rt: HostRuntime) -> Result<(), Fail> {
-    prints(&rt, b"OP\x00", "X 12 0\n")?;
-    prints(&rt, b"OP\x00\x00R", "O 0\nX 12 4\n")?;
-    prints(&rt, b"OP\x00\x00HE\x00", "O 0\nX 12 4\n")?;
-    prints(&rt, b"OP\x00\x00HE\x00\x02\x01", "O 0\nX 12 4\n")
+    prints(&rt, rt.alloc(), b"OP\x00", "X 12 0\n")?;
+    prints(&rt, rt.alloc(), b"OP\x00\x00R", "O 0\nX 12 4\n")?;
+    prints(&rt, rt.alloc(), b"OP\x00\x00HE\x00", "O 0\nX 12 4\n")?;
+    prints(&rt, rt.alloc(), b"OP\x00\x00HE\x00\x02\x01", "O 0\nX 12 4\n")
 }
 
-fn long_burst(rt: &HostRuntime, header: &[u8], samples: usize, lines: &str) -> Result<(), Fail> {
-    let mut bytes = header.to_vec(rt.alloc())?;
+fn long_burst(rt: &impl Abort, alloc: Global, header: &[u8], samples: usize, lines: &str) -> Result<(), Fail> {
+    let mut bytes = header.to_vec(alloc)?;
     for _ in 0..samples {
         bytes.push(2)?;
     }
-    prints(rt, &bytes, lines)
+    prints(rt, alloc, &bytes, lines)
 }
 
 #[test]
 fn most_samples(rt: HostRuntime) -> Result<(), Fail> {
-    long_burst(&rt, b"OP\x00\x00HE\x04\x00", 1024, "O 0\nX 6 1024\n")?;
-    long_burst(&rt, b"OP\x00\x00HE\x04\x01", 1025, "O 0\nX 12 4\n")
+    long_burst(&rt, rt.alloc(), b"OP\x00\x00HE\x04\x00", 1024, "O 0\nX 6 1024\n")?;
+    long_burst(&rt, rt.alloc(), b"OP\x00\x00HE\x04\x01", 1025, "O 0\nX 12 4\n")
 }
 
 #[test]
 fn opening_and_restarting_count_anew(rt: HostRuntime) -> Result<(), Fail> {
-    prints(
-        &rt,
+    prints(&rt, rt.alloc(),
         b"OP\x00\x00MIMIOP\x00\x00MI",
         "O 0\nB 0 0 0 000000\nB 1 0 0 000000\nO 0\nB 0 0 0 000000\n",
     )?;
-    prints(
-        &rt,
+    prints(&rt, rt.alloc(),
         b"OP\x00\x00MIREMI",
         "O 0\nB 0 0 0 000000\nR\nB 0 0 0 000000\n",
     )
@@ -70,13 +69,12 @@ fn opening_and_restarting_count_anew(rt: HostRuntime) -> Result<(), Fail> {
 
 #[test]
 fn refused_calls_count_nothing(rt: HostRuntime) -> Result<(), Fail> {
-    prints(&rt, b"OP\x00\x00STMI", "O 0\nX 8 0\nB 0 0 0 000000\n")?;
-    prints(
-        &rt,
+    prints(&rt, rt.alloc(), b"OP\x00\x00STMI", "O 0\nX 8 0\nB 0 0 0 000000\n")?;
+    prints(&rt, rt.alloc(),
         b"OP\x00\x00HE\x00\x00MI",
         "O 0\nX 6 0\nB 0 0 0 000000\n",
     )?;
     let unfit =
         b"OP\x00\x00HE\x00\x10\x00\x00\x00\x00\x00\x03\x00\x00\x00\x00\x00\x00\x00\x00\x00\x00MI";
-    prints(&rt, unfit, "O 0\nX 7 5\nB 0 0 0 000000\n")
+    prints(&rt, rt.alloc(), unfit, "O 0\nX 7 5\nB 0 0 0 000000\n")
 }

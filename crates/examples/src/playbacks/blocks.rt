@@ -7,8 +7,7 @@ use std::test::*;
 
 #[test]
 fn bcch_blocks_come_burst_by_burst(rt: HostRuntime) -> Result<(), Fail> {
-    plays(
-        &rt,
+    plays(&rt, rt.alloc(),
         &[
             Part::Bytes(b"OP\x01\x00"),
             Part::Count(BCCH_0.burst),
@@ -30,8 +29,7 @@ fn bcch_blocks_come_burst_by_burst(rt: HostRuntime) -> Result<(), Fail> {
 
 #[test]
 fn data_2_4_blocks_wait_for_three_bursts(rt: HostRuntime) -> Result<(), Fail> {
-    plays(
-        &rt,
+    plays(&rt, rt.alloc(),
         &[
             Part::Bytes(b"OP\x02\x01"),
             Part::Ranked(DATA24_0.burst),
@@ -51,8 +49,7 @@ fn data_2_4_blocks_wait_for_three_bursts(rt: HostRuntime) -> Result<(), Fail> {
 
 #[test]
 fn data_9_6_blocks_wait_for_three_bursts(rt: HostRuntime) -> Result<(), Fail> {
-    plays(
-        &rt,
+    plays(&rt, rt.alloc(),
         &[
             Part::Bytes(b"OP\x03\x00"),
             Part::Count(DATA96_0.burst),
@@ -65,8 +62,7 @@ fn data_9_6_blocks_wait_for_three_bursts(rt: HostRuntime) -> Result<(), Fail> {
 
 #[test]
 fn a_missed_burst_is_a_third_of_a_block(rt: HostRuntime) -> Result<(), Fail> {
-    plays(
-        &rt,
+    plays(&rt, rt.alloc(),
         &[
             Part::Bytes(b"OP\x02\x00"),
             Part::Count(DATA24_0.burst),
@@ -79,8 +75,7 @@ fn a_missed_burst_is_a_third_of_a_block(rt: HostRuntime) -> Result<(), Fail> {
 
 #[test]
 fn a_stolen_burst_counts_nothing(rt: HostRuntime) -> Result<(), Fail> {
-    plays(
-        &rt,
+    plays(&rt, rt.alloc(),
         &[
             Part::Bytes(b"OP\x02\x00"),
             Part::Count(DATA24_0.burst),
@@ -100,8 +95,7 @@ fn a_stolen_burst_counts_nothing(rt: HostRuntime) -> Result<(), Fail> {
 // Restarted before burst 1, the receiver counts that one as burst 0, and block 1 as block 0.
 #[test]
 fn a_restart_in_mid_stream_counts_anew(rt: HostRuntime) -> Result<(), Fail> {
-    plays(
-        &rt,
+    plays(&rt, rt.alloc(),
         &[
             Part::Bytes(b"OP\x02\x00"),
             Part::Count(DATA24_0.burst),
@@ -116,8 +110,7 @@ fn a_restart_in_mid_stream_counts_anew(rt: HostRuntime) -> Result<(), Fail> {
 
 #[test]
 fn another_channel_and_kind_are_opened(rt: HostRuntime) -> Result<(), Fail> {
-    plays(
-        &rt,
+    plays(&rt, rt.alloc(),
         &[
             Part::Bytes(b"OP\x02\x00"),
             Part::Count(DATA24_0.burst),
@@ -149,5 +142,5 @@ const LEVEL: [(&[u8], &str); 2] = [
 
 #[test]
 fn strength_decides_between_equal_counts(rt: HostRuntime) -> Result<(), Fail> {
-    each_prints(&rt, &LEVEL)
+    each_prints(&rt, rt.alloc(), &LEVEL)
 }

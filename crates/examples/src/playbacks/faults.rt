@@ -1,6 +1,7 @@
 // Every reason for refusal 12: its line tells where the record's mark stands, and nothing is read after it.
 use super::{Part, each_prints, plays, prints};
 use crate::bursts::DATA24_0;
+use std::alloc::Global;
 use std::test::*;
 
 const FIRST: [(&[u8], &str); 4] = [
@@ -12,7 +13,7 @@ const FIRST: [(&[u8], &str); 4] = [
 
 #[test]
 fn only_an_opening_comes_first(rt: HostRuntime) -> Result<(), Fail> {
-    each_prints(&rt, &FIRST)
+    each_prints(&rt, rt.alloc(), &FIRST)
 }
 
 const UNKNOWN: [(&[u8], &str); 7] = [
@@ -27,7 +28,7 @@ const UNKNOWN: [(&[u8], &str); 7] = [
 
 #[test]
 fn unknown_marks_channels_and_kinds(rt: HostRuntime) -> Result<(), Fail> {
-    each_prints(&rt, &UNKNOWN)
+    each_prints(&rt, rt.alloc(), &UNKNOWN)
 }
 
 const CUT: [(&[u8], &str); 12] = [
@@ -47,14 +48,13 @@ const CUT: [(&[u8], &str); 12] = [
 
 #[test]
 fn cut_records(rt: HostRuntime) -> Result<(), Fail> {
-    each_prints(&rt, &CUT)
+    each_prints(&rt, rt.alloc(), &CUT)
 }
 
 // The second record wants one byte more than there is.
 #[test]
 fn a_long_burst_cut(rt: HostRuntime) -> Result<(), Fail> {
-    plays(
-        &rt,
+    plays(&rt, rt.alloc(),
         &[
             Part::Bytes(b"OP\x02\x00"),
             Part::Count(DATA24_0.burst),
@@ -65,16 +65,16 @@ fn a_long_burst_cut(rt: HostRuntime) -> Result<(), Fail> {
     )
 }
 
-fn long_burst(rt: &HostRuntime, header: &[u8], samples: usize, lines: &str) -> Result<(), Fail> {
-    let mut bytes = header.to_vec(rt.alloc())?;
+fn long_burst(rt: &impl Abort, alloc: Global, header: &[u8], samples: usize, lines: &str) -> Result<(), Fail> {
+    let mut bytes = header.to_vec(alloc)?;
     for _ in 0..samples {
         bytes.push(2)?;
     }
-    prints(rt, &bytes, lines)
+    prints(rt, alloc, &bytes, lines)
 }
 
 #[test]
 fn most_samples(rt: HostRuntime) -> Result<(), Fail> {
-    long_burst(&rt, b"OP\x00\x00HE\x04\x00", 1024, "O 0\nX 6 1024\n")?;
-    long_burst(&rt, b"OP\x00\x00HE\x04\x01", 1025, "O 0\nX 12 4\n")
+    long_burst(&rt, rt.alloc(), b"OP\x00\x00HE\x04\x00", 1024, "O 0\nX 6 1024\n")?;
+    long_burst(&rt, rt.alloc(), b"OP\x00\x00HE\x04\x01", 1025, "O 0\nX 12 4\n")
 }

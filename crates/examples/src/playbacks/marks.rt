@@ -25,13 +25,12 @@ const BENCH: [(&[u8], &str); 5] = [
 
 #[test]
 fn bench(rt: HostRuntime) -> Result<(), Fail> {
-    each_prints(&rt, &BENCH)
+    each_prints(&rt, rt.alloc(), &BENCH)
 }
 
 #[test]
 fn bcch(rt: HostRuntime) -> Result<(), Fail> {
-    plays(
-        &rt,
+    plays(&rt, rt.alloc(),
         &[
             Part::Bytes(b"OP\x01\x00MISTREMI"),
             Part::Bytes(b"OP\x01\x01MI"),
@@ -50,8 +49,7 @@ fn bcch(rt: HostRuntime) -> Result<(), Fail> {
 
 #[test]
 fn data_2_4(rt: HostRuntime) -> Result<(), Fail> {
-    plays(
-        &rt,
+    plays(&rt, rt.alloc(),
         &[
             Part::Bytes(b"OP\x02\x00STMIMIMISTRESTMI"),
             Part::Bytes(b"OP\x02\x01MIMIMI"),
@@ -68,8 +66,7 @@ fn data_2_4(rt: HostRuntime) -> Result<(), Fail> {
 
 #[test]
 fn data_9_6(rt: HostRuntime) -> Result<(), Fail> {
-    plays(
-        &rt,
+    plays(&rt, rt.alloc(),
         &[
             Part::Bytes(b"OP\x03\x00STMIMIMISTRESTMI"),
             Part::Bytes(b"OP\x03\x01MIMIMI"),
