@@ -1,5 +1,5 @@
 -- The decoder reads unfit samples as nothing; the ring was read so already, so it decides on just what is due.
-use Rattle.std.proofs.Common.{◌≡◌, ℕ, ◌≤◌, true, ltb, List, get_or, Some, Option, sym, refl, ap, ◌∙◌, subst, arith}
+use Rattle.std.proofs.Common.{◌≡◌, ℕ, ◌≤◌, true, ltb, List, get_or, Some, Option, subst, arith}
 use Rattle.std.proofs.lemmas.Bool.{and_from, cond_both, le-leb}
 use Rattle.cost.specs.declared.kind.Cost as cost
 use Rattle.cost.proofs.Lawful.{Laws}

@@ -1,5 +1,5 @@
 -- A call does what its rules say: refused by the first that is broken, else its burst is taken in.
-use Rattle.std.proofs.Common.{◌≡◌, ℕ, List, Some, None, Ok, Err, Option, sym, refl, ap, ◌∙◌, arith}
+use Rattle.std.proofs.Common.{◌≡◌, ℕ, List, Some, None, Ok, Err, Option, refl, ap, ◌∙◌, arith}
 use Rattle.cost.specs.declared.kind.Cost as cost
 use Rattle.line.specs.declared.laying.Line as line
 use Rattle.link.specs.declared.receiver.Receiver.{Receiver}

@@ -2,14 +2,13 @@
 ghost use Rattle.std.specs.Prelude.{◌≡◌, ◌≤◌, true};
 ghost use Rattle.trellis.specs.Codes.{sound};
 
-use line::laying::Line;
 use trellis::code::Code;
 
 pub mod agree;
 
 // Message and parity bits are the protected bits of a block; `depth` bursts carry it, `burst` bits each, as the line told when it was opened.
 #[derive(Drop)]
-pub struct Format<L: Line> {
+pub struct Format<L> {
     pub(crate) code: Code,
     pub(crate) message: usize,
     pub(crate) parity: usize,

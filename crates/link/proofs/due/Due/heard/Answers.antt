@@ -1,4 +1,4 @@
-use Rattle.std.proofs.Common.{◌≡◌, ℕ, suc, ◌+◌, Bool, true, false, cond, sym, ap, ◌∙◌, ap₂, add-one, arith}
+use Rattle.std.proofs.Common.{◌≡◌, ℕ, ◌+◌, Bool, true, false, cond, sym, ap, ◌∙◌, ap₂, add-one, arith}
 use Rattle.cost.specs.declared.kind.Cost.{Ghosts}
 use Rattle.link.specs.Due.{in_ring, heard_of}
 use Rattle.link.proofs.due.Due.heard.Goals as goal

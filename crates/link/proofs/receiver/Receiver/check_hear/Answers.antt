@@ -1,4 +1,4 @@
-use Rattle.std.proofs.Common.{◌≡◌, eqb, [], ◌∷◌, length, Err, sym, ap, ◌∙◌}
+use Rattle.std.proofs.Common.{eqb, [], ◌∷◌, length, Err, ap, ◌∙◌}
 use Rattle.std.proofs.lemmas.Result.{err_from_is_err_and}
 use Rattle.link.specs.declared.refusal.Refusal.TheVariants.{WrongCount}
 use Rattle.link.specs.Rules.{all_fit, miss_rules, unless}

@@ -1,4 +1,4 @@
-use Rattle.std.proofs.Common.{◌≡◌, length, Ok, sym, ◌∙◌, subst, arith}
+use Rattle.std.proofs.Common.{length, Ok, sym, ◌∙◌, subst, arith}
 use Rattle.link.specs.declared.report.Answer.TheVariants.{Block}
 use Rattle.link.specs.Calls.{Decides}
 use Rattle.link.specs.Due.{in_ring}

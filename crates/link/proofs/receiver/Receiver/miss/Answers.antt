@@ -1,4 +1,4 @@
-use Rattle.std.proofs.Common.{◌≡◌, replicate, Err, ap, ◌∙◌}
+use Rattle.std.proofs.Common.{replicate, Err, ap, ◌∙◌}
 use Rattle.std.proofs.lemmas.Result.{err_from_is_err_and}
 use Rattle.link.specs.Calls.{lent, silence, sizes}
 use Rattle.link.specs.Due.{stored}
