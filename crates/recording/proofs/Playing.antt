@@ -4,8 +4,8 @@ use Rattle.std.proofs.lemmas.List.{drop_all, drop-drop, length-drop}
 use Rattle.link.specs.declared.refusal.Refusal.TheVariants.{BadRecord}
 use Rattle.recording.specs.Calls.{Room}
 use Rattle.recording.specs.Lines.{refusal_line}
-use Rattle.recording.specs.Playing.{Plays, Played, Turn, Runs, done, played, written, all_written, fault_written}
-use Rattle.recording.specs.Recordings.{Next, Spells, ends, faults, says}
+use Rattle.recording.specs.Playing.{Plays, Played, Turn, done, played, written, all_written, fault_written}
+use Rattle.recording.specs.Recordings.{Next, ends, faults, says}
 use Rattle.recording.specs.Records.{Said, Begins, spelling}
 use Rattle.recording.specs.declared.bench.Bench.{Bench}
 use Rattle.recording.specs.declared.line.Line.{Line}
