@@ -8,25 +8,26 @@ use Rattle.puncture.specs.Masks.{Lent, lent, lent_masks}
 rows_over : (t : Lent) (n : ℕ) → length t.now * n ≡ length (lent t) * n
 rows_over t n = ap (λ k. k * n) (sym (length-map t.now (λ x. x.now)))
 
-pub overflow-mul-result : goal.overflow-mul-result
-overflow-mul-result c = omega (arith, (sound_parts (lent_masks c.args.steps c.args.prefix c.args.middle c.args.times c.args.suffix) c.requires).2, rows_over c.args.middle c.args.steps)
+pub overflow_mul-result : goal.overflow_mul-result
+overflow_mul-result c = omega (arith, (sound_parts (lent_masks c.args.steps c.args.prefix c.args.middle c.args.times c.args.suffix) c.requires).2, rows_over c.args.middle c.args.steps)
 
-pub packed-end-requires : goal.packed-end-requires
-packed-end-requires c = (sound_parts (lent_masks c.args.steps c.args.prefix c.args.middle c.args.times c.args.suffix) c.requires).0.front_short
+pub packed_end-requires : goal.packed_end-requires
+packed_end-requires c = (sound_parts (lent_masks c.args.steps c.args.prefix c.args.middle c.args.times c.args.suffix) c.requires).0.front_short
 
 pub packed-requires : goal.packed-requires
 packed-requires c = (sound_parts (lent_masks c.args.steps c.args.prefix c.args.middle c.args.times c.args.suffix) c.requires).0.short
 
-pub packed-end-requires-2 : goal.packed-end-requires-2
-packed-end-requires-2 c = (sound_parts (lent_masks c.args.steps c.args.prefix c.args.middle c.args.times c.args.suffix) c.requires).0.back_short
+pub packed_end-requires-2 : goal.packed_end-requires-2
+packed_end-requires-2 c = (sound_parts (lent_masks c.args.steps c.args.prefix c.args.middle c.args.times c.args.suffix) c.requires).0.back_short
 
-pub invariant-of-result : goal.invariant-of-result
-invariant-of-result c =
+pub invariant_of-result : goal.invariant_of-result
+invariant_of-result c =
     let m = lent_masks c.args.steps c.args.prefix c.args.middle c.args.times c.args.suffix in
-    let n = rows_over c.args.middle c.args.steps in (
-      strips_fit m c.requires c.packed-end.result c.packed.result c.packed-end-2.result c.packed-end.ensures c.packed.ensures c.packed-end-2.ensures _ n,
-      (omega (arith, (sound_parts m c.requires).2), tt),
-    )
+    let n = rows_over c.args.middle c.args.steps in
+    record {
+      fits = strips_fit m c.requires c.packed_end.result c.packed.result c.packed_end-2.result c.packed_end.ensures c.packed.ensures c.packed_end-2.ensures _ n;
+      small = omega (arith, (sound_parts m c.requires).2);
+    }
 
 pub returns : goal.returns
 returns c =
@@ -35,5 +36,5 @@ returns c =
     record {
       suited = refl;
       coded = omega (arith, (sound_parts m c.requires).2);
-      kept = strips_pattern m c.requires c.packed-end.result c.packed.result c.packed-end-2.result c.packed-end.ensures c.packed.ensures c.packed-end-2.ensures _ n;
+      kept = strips_pattern m c.requires c.packed_end.result c.packed.result c.packed_end-2.result c.packed_end.ensures c.packed.ensures c.packed_end-2.ensures _ n;
     }

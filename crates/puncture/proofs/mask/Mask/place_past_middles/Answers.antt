@@ -5,14 +5,14 @@ use Rattle.puncture.proofs.mask.Mask.place_past_middles.Goals as goal
 use Rattle.puncture.specs.Patterns.{numbered, raised}
 use Rattle.puncture.specs.Strips.{held, left_over}
 
-pub overflow-add-result : goal.overflow-add-result
-overflow-add-result c = omega (arith, c.args.self.now.fits, c.args.self.now.small)
+pub overflow_add-result : goal.overflow_add-result
+overflow_add-result c = omega (arith, c.args.self.now.fits, c.args.self.now.small)
 
-pub overflow-add-before : goal.overflow-add-before
-overflow-add-before c = omega (arith, c.args.self.now.fits, c.args.self.now.small)
+pub overflow_add-before : goal.overflow_add-before
+overflow_add-before c = omega (arith, c.args.self.now.fits, c.args.self.now.small)
 
-pub number-of-requires : goal.number-of-requires
-number-of-requires c = omega (arith, c.args.self.now.fits, c.args.self.now.small)
+pub number_of-requires : goal.number_of-requires
+number_of-requires c = omega (arith, c.args.self.now.fits, c.args.self.now.small)
 
 pub returns-then-j-left : goal.returns-then-j-left
 returns-then-j-left c =
@@ -27,7 +27,7 @@ returns-else-j-left c =
     let n = left_over l in
     let j = c.args.j in
     let before = c.args.before in
-    c.number-of.ensures
-    ∙ ap (λ k. raised (before + k) (numbered (held l.suffix) (j - k))) c.left-over-left.ensures
+    c.number_of.ensures
+    ∙ ap (λ k. raised (before + k) (numbered (held l.suffix) (j - k))) c.left_over-left.ensures
     ∙ sym (raised_twice before n (numbered (held l.suffix) (j - n)))
     ∙ ap (raised before) (sym (numbered_past_ones n (held l.suffix) j (omega arith)))

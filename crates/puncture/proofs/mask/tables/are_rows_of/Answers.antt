@@ -8,18 +8,18 @@ use Rattle.puncture.specs.Masks.{sound_rows}
 abbrev rows_of : ℕ → List (Bor (List ℕ)) → Bool
 rows_of n t = sound_rows n (map (λ x. x.now) t)
 
-pub returns-then-not-is-row-of : goal.returns-then-not-is-row-of
-returns-then-not-is-row-of c =
+pub returns-then-not-is_row_of : goal.returns-then-not-is_row_of
+returns-then-not-is_row_of c =
     let t = c.args.table.now in
     let i = c.loop-row.row-index in
-    sym (sym c.loop-row.invariant ∙ at_drop_more (rows_of c.args.columns) t i _ c.loop-row-test.true ∙ and_left _ _ (sym c.is-row-of.ensures ∙ c.if-not-is-row-of.true))
+    sym (sym c.loop-row.invariant ∙ at_drop_more (rows_of c.args.columns) t i _ c.loop-row-test.true ∙ and_left _ _ (sym c.is_row_of.ensures ∙ c.if-not-is_row_of.true))
 
 pub loop-row-preserved : goal.loop-row-preserved
 loop-row-preserved c =
     let t = c.args.table.now in
     let i = c.loop-row.row-index in
     let on = rows_of c.args.columns in
-    sym (at_drop_more on t i _ c.loop-row-test.true ∙ ap (λ b. b && on (drop (i + 1) t)) (sym c.is-row-of.ensures ∙ c.if-not-is-row-of.false))
+    sym (at_drop_more on t i _ c.loop-row-test.true ∙ ap (λ b. b && on (drop (i + 1) t)) (sym c.is_row_of.ensures ∙ c.if-not-is_row_of.false))
     ∙ c.loop-row.invariant
 
 pub returns : goal.returns

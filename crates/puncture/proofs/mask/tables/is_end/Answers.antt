@@ -7,7 +7,7 @@ use Rattle.puncture.specs.Masks.{lent, lent_end, sound_end, sound_period}
 pub returns-then-table-rows : goal.returns-then-table-rows
 returns-then-table-rows c =
     let t = c.in-Some.table in
-    c.has-period.ensures
+    c.has_period.ensures
     ∙ ap (λ b. b && sound_period (lent t)) (sym (eq-eqb (length (lent t)) c.args.rows (length-map t.now (λ x. x.now) ∙ c.if-table-rows.true)))
     ∙ sym (ap (λ o. sound_end c.args.rows (lent_end o)) c.in-Some.is)
 

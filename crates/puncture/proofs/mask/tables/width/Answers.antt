@@ -4,15 +4,15 @@ use Rattle.std.proofs.lemmas.List.{get_or-map, get_or_past}
 use Rattle.std.proofs.lemmas.Bool.{eqb-true, eqb-false}
 use Rattle.puncture.proofs.mask.tables.width.Goals as goal
 
-pub returns-then-is-empty : goal.returns-then-is-empty
-returns-then-is-empty c =
+pub returns-then-is_empty : goal.returns-then-is_empty
+returns-then-is_empty c =
     let t = c.args.table.now in
-    let none = eqb-true (length t) 0 (sym c.is-empty.ensures ∙ c.if-is-empty.true) in
+    let none = eqb-true (length t) 0 (sym c.is_empty.ensures ∙ c.if-is_empty.true) in
     sym (ap length (get_or_past (map (λ x. x.now) t) 0 [] (omega (arith, length-map t (λ x. x.now)))))
 
-pub returns-else-is-empty : goal.returns-else-is-empty
-returns-else-is-empty c =
+pub returns-else-is_empty : goal.returns-else-is_empty
+returns-else-is_empty c =
     let t = c.args.table.now in
-    let some = eqb-false (length t) 0 (sym c.is-empty.ensures ∙ c.if-is-empty.false) in
+    let some = eqb-false (length t) 0 (sym c.is_empty.ensures ∙ c.if-is_empty.false) in
     let h : 0 < length t = omega arith in
     sym (ap length (get_or-map (λ x. x.now) t 0 _ [] h))

@@ -2,17 +2,17 @@ use Rattle.std.proofs.Common.{arith}
 use Rattle.puncture.specs.Masking.{held_within, kept_pattern, turns_fit}
 use Rattle.puncture.proofs.mask.laid.MaskLine.burst_bits.Goals as goal
 
-pub overflow-mul-result : goal.overflow-mul-result
-overflow-mul-result c = let l = c.args.self.now in omega (arith, l.fits, l.small, turns_fit l c.kept-2.result c.kept-2.ensures)
+pub overflow_mul-result : goal.overflow_mul-result
+overflow_mul-result c = let l = c.args.self.now in omega (arith, l.fits, l.small, turns_fit l c.kept-2.result c.kept-2.ensures)
 
-pub overflow-add-result : goal.overflow-add-result
-overflow-add-result c = let l = c.args.self.now in omega (arith, l.fits, l.small, held_within l.prefix, turns_fit l c.kept-2.result c.kept-2.ensures)
+pub overflow_add-result : goal.overflow_add-result
+overflow_add-result c = let l = c.args.self.now in omega (arith, l.fits, l.small, held_within l.prefix, turns_fit l c.kept-2.result c.kept-2.ensures)
 
-pub overflow-add-result-2 : goal.overflow-add-result-2
-overflow-add-result-2 c = let l = c.args.self.now in omega (arith, l.fits, l.small, held_within l.prefix, turns_fit l c.kept-2.result c.kept-2.ensures)
+pub overflow_add-result-2 : goal.overflow_add-result-2
+overflow_add-result-2 c = let l = c.args.self.now in omega (arith, l.fits, l.small, held_within l.prefix, turns_fit l c.kept-2.result c.kept-2.ensures)
 
-pub overflow-add-result-3 : goal.overflow-add-result-3
-overflow-add-result-3 c =
+pub overflow_add-result-3 : goal.overflow_add-result-3
+overflow_add-result-3 c =
     let l = c.args.self.now in
     omega (arith, l.fits, l.small, held_within l.prefix, held_within l.suffix, turns_fit l c.kept-2.result c.kept-2.ensures)
 

@@ -7,8 +7,8 @@ use Rattle.puncture.proofs.mask.strip.Strip.number_of.Goals.{else-at-self-via-th
 use Rattle.puncture.specs.Patterns.{raised}
 use Rattle.puncture.specs.Strips.{held}
 
-pub overflow-add-result : goal.overflow-add-result
-overflow-add-result c =
+pub overflow_add-result : goal.overflow_add-result
+overflow_add-result c =
     let p = held c.args.self.now in
     omega (arith, kept_within (take c.args.at p), length-take c.args.at p)
 

@@ -12,8 +12,8 @@ loop-c-init c =
     let none : 0 ≡ width t - c.width-c.result = omega arith in
     ap (λ n. bits n c.empty-strip.result.bits) c.empty-strip.ensures ∙ ap (columns t c.width-c.result) none
 
-pub with-column-strip-requires : goal.with-column-strip-requires
-with-column-strip-requires c =
+pub with_column-strip-requires : goal.with_column-strip-requires
+with_column-strip-requires c =
     let t = map (λ x. x.now) c.args.table.now in
     let s = c.loop-c.strip in
     let n = width t - c.loop-c.c in
@@ -34,7 +34,7 @@ loop-c-preserved c =
     let k = c.loop-c.c - 1 in
     let on : c.loop-c.c ≡ suc k = omega arith in
     let more : suc (width t - c.loop-c.c) ≡ width t - k = omega arith in
-    c.with-column-strip.ensures
+    c.with_column-strip.ensures
     ∙ ap (λ p. column t k ++ p) (c.loop-c.invariant ∙ ap (λ n. columns t n (width t - c.loop-c.c)) on)
     ∙ ap (columns t k) more
 

@@ -10,8 +10,8 @@ loop-i-init c =
     let t = c.args.table.now in
     ap (λ u. column (map (λ x. x.now) u) c.args.c ++ held c.args.self) (sym (drop_all (length t) t (omega arith)))
 
-pub with-entry-strip-requires : goal.with-entry-strip-requires
-with-entry-strip-requires c =
+pub with_entry-strip-requires : goal.with_entry-strip-requires
+with_entry-strip-requires c =
     let t = drop c.loop-i.i c.args.table.now in
     omega (arith, column_held t c.args.c c.loop-i.strip c.args.self c.loop-i.invariant, length-drop c.loop-i.i c.args.table.now)
 
@@ -22,7 +22,7 @@ loop-i-preserved c =
     let on : c.loop-i.i ≡ i + 1 = omega arith in
     let inside : i < length t = omega arith in
     let col : List (Bor (List ℕ)) → List Bool = λ u. column (map (λ x. x.now) u) c.args.c ++ held c.args.self in
-    c.with-entry-strip.ensures
+    c.with_entry-strip.ensures
     ∙ ap₂ (λ (b : Bool) (p : List Bool). b ∷ p) c.keeps.ensures (c.loop-i.invariant ∙ ap (λ n. col (drop n t)) on)
     ∙ sym (ap col (drop_more t i _ inside))
 
