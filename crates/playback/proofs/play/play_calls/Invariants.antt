@@ -6,7 +6,7 @@ use Rattle.playback.proofs.play.play_calls.Given as goal
 
 abbrev pub invariant-loop-record : goal.invariant-loop-record
 invariant-loop-record g l =
-    Going (weighed g.C.Cost g.Sample.Spelt.spelt g.C.Figured.figures) l.initial.station.receiver l.bytes l.start (memory l.initial.station)
+    Going (weighed g.C.Cost g.C.Sample.Spelt.spelt g.C.Figured.figures) l.initial.station.receiver l.bytes l.start (memory l.initial.station)
     l.station.receiver (memory l.station) l.at (string_bytes l.initial.lines) (string_bytes l.lines)
 
 abbrev pub decreases-loop-record : goal.decreases-loop-record

@@ -11,4 +11,4 @@ filled_up n x xs k e z =
 
 pub returns : goal.returns
 returns g c =
-    c.in-ok-resize.ensures.items ∙ filled_up c.args.n c.args.x _ _ c.new-elements.ensures.items c.new-elements.ensures.len
+    c.in_ok-resize.ensures.items ∙ filled_up c.args.n c.args.x _ _ c.new-elements.ensures.items c.new-elements.ensures.len

@@ -13,7 +13,7 @@ loop-bit-preserved g c p =
     let took = g.W.Write.write_str_gives in
     let before = c.loop-bit.invariant p in
     has_written_of_eq took _ _ _ _ (sym (bits_more c.args.self.now.0.now c.loop-bit.bit-index c.loop-bit-test.true))
-    (has_written_append took _ _ _ _ _ before (c.in-ok-write.ensures.shows before.plain (refl {a = true})))
+    (has_written_append took _ _ _ _ _ before (c.in_ok-write.ensures.writes before.plain (refl {a = true})))
 
 pub returns-clause-writes : goal.returns-clause-writes
 returns-clause-writes g c p e =

@@ -7,5 +7,5 @@ returns-in-Block g c =
     let m = c.args.message.now in
     let all : take (length m) m ≡ m = take_all (length m) m (omega arith) in
     let is = c.in-Block.is in
-    let figures = c.to-figures.ensures in
+    let figures = c.to_figures.ensures in
     simp (is, all, figures)

@@ -9,10 +9,10 @@ pub returns : goal.returns
 returns g c =
     let s = c.args.self.now in
     let r = c.hear.new.self in
-    let m = lent c.deref-mut.result.now c.deref-mut-2.result.now c.deref-mut-3.result.now c.deref-mut-4.result.now in
+    let m = lent c.deref_mut.result.now c.deref_mut-2.result.now c.deref_mut-3.result.now c.deref_mut-4.result.now in
     let m' = lent c.hear.new.ring c.hear.new.costs c.hear.new.paths c.hear.new.block in
     let before : m ≡ memory s =
-    λ i. lent (c.deref-mut.ensures.value i) (c.deref-mut-2.ensures.value i) (c.deref-mut-3.ensures.value i) (c.deref-mut-4.ensures.value i) in
+    λ i. lent (c.deref_mut.ensures.value i) (c.deref_mut-2.ensures.value i) (c.deref_mut-3.ensures.value i) (c.deref_mut-4.ensures.value i) in
     let kept = c.hear.auto in
     let same : sizes m' ≡ sizes m = λ i. record { ring = kept.ring i; costs = kept.costs i; paths = kept.paths i; block = kept.block i } in
     record {

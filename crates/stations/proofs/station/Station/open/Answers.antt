@@ -9,10 +9,10 @@ returns g c =
       tuned = c.open-receiver.ensures;
       room =
           (λ i. record {
-            ring = (ap length c.in-ok-filled.ensures ∙ length-replicate n.ring _) i;
-            costs = (ap length c.in-ok-filled-2.ensures ∙ length-replicate n.costs _) i;
-            paths = (ap length c.in-ok-filled-3.ensures ∙ length-replicate n.paths _) i;
-            block = (ap length c.in-ok-filled-4.ensures ∙ length-replicate n.block _) i;
+            ring = (ap length c.in_ok-filled.ensures ∙ length-replicate n.ring _) i;
+            costs = (ap length c.in_ok-filled-2.ensures ∙ length-replicate n.costs _) i;
+            paths = (ap length c.in_ok-filled-3.ensures ∙ length-replicate n.paths _) i;
+            block = (ap length c.in_ok-filled-4.ensures ∙ length-replicate n.block _) i;
           })
           ∙ c.needs-needs.ensures;
     }
