@@ -1,6 +1,7 @@
 // The text: a line for each burst, with its channel, the message of that number, and the burst, bits as figures.
+use anyhow::anyhow;
 use channels::channel::Channel;
-use std::alloc::{AllocError, Global};
+use std::alloc::Global;
 
 pub(crate) const CHANNELS: [(&str, Channel); 3] = [
     ("BCCH", Channel::Bcch),
@@ -19,15 +20,14 @@ pub(crate) fn read_vectors<'a>(heap: Global, text: &'a str) -> anyhow::Result<Ve
     for (before, line) in text.lines().enumerate() {
         match read_line(line) {
             Some(vector) => vectors.push(vector)?,
-            None => return Err(bad_line(heap, before.saturating_add(1))?),
+            None => return Err(bad_line(before.saturating_add(1))),
         }
     }
     Ok(vectors)
 }
 
-fn bad_line(heap: Global, number: usize) -> Result<anyhow::Error, AllocError> {
-    let text = format!(in heap; "line {number} is not a channel, a message and a burst")?;
-    Ok(text.into())
+fn bad_line(number: usize) -> anyhow::Error {
+    anyhow!("line {number} is not a channel, a message and a burst")
 }
 
 fn read_line<'a>(line: &'a str) -> Option<Vector<'a>> {
