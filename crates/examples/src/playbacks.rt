@@ -1,6 +1,7 @@
 // Recordings, and the lines that playing them makes.
 use playback::play::play;
 use std::alloc::{AllocError, Global};
+use std::process::Abort;
 use std::test::*;
 
 mod blocks;

@@ -1,6 +1,7 @@
 // Recordings, and the lines that playing them makes.
 use recording::play::play;
 use std::alloc::Global;
+use std::process::Abort;
 use std::test::*;
 
 fn prints(rt: &impl Abort, alloc: Global, bytes: &[u8], lines: &str) -> Result<(), Fail> {
@@ -18,7 +19,12 @@ fn no_bytes_no_lines(rt: HostRuntime) -> Result<(), Fail> {
 fn a_burst_heard_missed_and_short(rt: HostRuntime) -> Result<(), Fail> {
     let bytes =
         b"OP\x00\x00HE\x00\x10\x01\x00\x00\x00\x01\x00\x00\x00\x01\x00\x01\x00\x00\x00\x00\x00MIHE\x00\x01\x02";
-    prints(&rt, rt.alloc(), bytes, "O 0\nB 0 1 16 100000\nB 1 0 0 000000\nX 6 1\n")
+    prints(
+        &rt,
+        rt.alloc(),
+        bytes,
+        "O 0\nB 0 1 16 100000\nB 1 0 0 000000\nX 6 1\n",
+    )
 }
 
 #[test]
@@ -38,10 +44,21 @@ fn cut_records(rt: HostRuntime) -> Result<(), Fail> {
     prints(&rt, rt.alloc(), b"OP\x00", "X 12 0\n")?;
     prints(&rt, rt.alloc(), b"OP\x00\x00R", "O 0\nX 12 4\n")?;
     prints(&rt, rt.alloc(), b"OP\x00\x00HE\x00", "O 0\nX 12 4\n")?;
-    prints(&rt, rt.alloc(), b"OP\x00\x00HE\x00\x02\x01", "O 0\nX 12 4\n")
+    prints(
+        &rt,
+        rt.alloc(),
+        b"OP\x00\x00HE\x00\x02\x01",
+        "O 0\nX 12 4\n",
+    )
 }
 
-fn long_burst(rt: &impl Abort, alloc: Global, header: &[u8], samples: usize, lines: &str) -> Result<(), Fail> {
+fn long_burst(
+    rt: &impl Abort,
+    alloc: Global,
+    header: &[u8],
+    samples: usize,
+    lines: &str,
+) -> Result<(), Fail> {
     let mut bytes = header.to_vec(alloc)?;
     for _ in 0..samples {
         bytes.push(2)?;
@@ -51,17 +68,33 @@ fn long_burst(rt: &impl Abort, alloc: Global, header: &[u8], samples: usize, lin
 
 #[test]
 fn most_samples(rt: HostRuntime) -> Result<(), Fail> {
-    long_burst(&rt, rt.alloc(), b"OP\x00\x00HE\x04\x00", 1024, "O 0\nX 6 1024\n")?;
-    long_burst(&rt, rt.alloc(), b"OP\x00\x00HE\x04\x01", 1025, "O 0\nX 12 4\n")
+    long_burst(
+        &rt,
+        rt.alloc(),
+        b"OP\x00\x00HE\x04\x00",
+        1024,
+        "O 0\nX 6 1024\n",
+    )?;
+    long_burst(
+        &rt,
+        rt.alloc(),
+        b"OP\x00\x00HE\x04\x01",
+        1025,
+        "O 0\nX 12 4\n",
+    )
 }
 
 #[test]
 fn opening_and_restarting_count_anew(rt: HostRuntime) -> Result<(), Fail> {
-    prints(&rt, rt.alloc(),
+    prints(
+        &rt,
+        rt.alloc(),
         b"OP\x00\x00MIMIOP\x00\x00MI",
         "O 0\nB 0 0 0 000000\nB 1 0 0 000000\nO 0\nB 0 0 0 000000\n",
     )?;
-    prints(&rt, rt.alloc(),
+    prints(
+        &rt,
+        rt.alloc(),
         b"OP\x00\x00MIREMI",
         "O 0\nB 0 0 0 000000\nR\nB 0 0 0 000000\n",
     )
@@ -69,8 +102,15 @@ fn opening_and_restarting_count_anew(rt: HostRuntime) -> Result<(), Fail> {
 
 #[test]
 fn refused_calls_count_nothing(rt: HostRuntime) -> Result<(), Fail> {
-    prints(&rt, rt.alloc(), b"OP\x00\x00STMI", "O 0\nX 8 0\nB 0 0 0 000000\n")?;
-    prints(&rt, rt.alloc(),
+    prints(
+        &rt,
+        rt.alloc(),
+        b"OP\x00\x00STMI",
+        "O 0\nX 8 0\nB 0 0 0 000000\n",
+    )?;
+    prints(
+        &rt,
+        rt.alloc(),
         b"OP\x00\x00HE\x00\x00MI",
         "O 0\nX 6 0\nB 0 0 0 000000\n",
     )?;

@@ -7,7 +7,9 @@ use std::test::*;
 
 #[test]
 fn bcch_blocks_come_burst_by_burst(rt: HostRuntime) -> Result<(), Fail> {
-    plays(&rt, rt.alloc(),
+    plays(
+        &rt,
+        rt.alloc(),
         &[
             Part::Bytes(b"OP\x01\x00"),
             Part::Count(BCCH_0.burst),
@@ -29,7 +31,9 @@ fn bcch_blocks_come_burst_by_burst(rt: HostRuntime) -> Result<(), Fail> {
 
 #[test]
 fn data_2_4_blocks_wait_for_three_bursts(rt: HostRuntime) -> Result<(), Fail> {
-    plays(&rt, rt.alloc(),
+    plays(
+        &rt,
+        rt.alloc(),
         &[
             Part::Bytes(b"OP\x02\x01"),
             Part::Ranked(DATA24_0.burst),
@@ -49,7 +53,9 @@ fn data_2_4_blocks_wait_for_three_bursts(rt: HostRuntime) -> Result<(), Fail> {
 
 #[test]
 fn data_9_6_blocks_wait_for_three_bursts(rt: HostRuntime) -> Result<(), Fail> {
-    plays(&rt, rt.alloc(),
+    plays(
+        &rt,
+        rt.alloc(),
         &[
             Part::Bytes(b"OP\x03\x00"),
             Part::Count(DATA96_0.burst),
@@ -62,7 +68,9 @@ fn data_9_6_blocks_wait_for_three_bursts(rt: HostRuntime) -> Result<(), Fail> {
 
 #[test]
 fn a_missed_burst_is_a_third_of_a_block(rt: HostRuntime) -> Result<(), Fail> {
-    plays(&rt, rt.alloc(),
+    plays(
+        &rt,
+        rt.alloc(),
         &[
             Part::Bytes(b"OP\x02\x00"),
             Part::Count(DATA24_0.burst),
@@ -75,7 +83,9 @@ fn a_missed_burst_is_a_third_of_a_block(rt: HostRuntime) -> Result<(), Fail> {
 
 #[test]
 fn a_stolen_burst_counts_nothing(rt: HostRuntime) -> Result<(), Fail> {
-    plays(&rt, rt.alloc(),
+    plays(
+        &rt,
+        rt.alloc(),
         &[
             Part::Bytes(b"OP\x02\x00"),
             Part::Count(DATA24_0.burst),
@@ -95,7 +105,9 @@ fn a_stolen_burst_counts_nothing(rt: HostRuntime) -> Result<(), Fail> {
 // Restarted before burst 1, the receiver counts that one as burst 0, and block 1 as block 0.
 #[test]
 fn a_restart_in_mid_stream_counts_anew(rt: HostRuntime) -> Result<(), Fail> {
-    plays(&rt, rt.alloc(),
+    plays(
+        &rt,
+        rt.alloc(),
         &[
             Part::Bytes(b"OP\x02\x00"),
             Part::Count(DATA24_0.burst),
@@ -110,7 +122,9 @@ fn a_restart_in_mid_stream_counts_anew(rt: HostRuntime) -> Result<(), Fail> {
 
 #[test]
 fn another_channel_and_kind_are_opened(rt: HostRuntime) -> Result<(), Fail> {
-    plays(&rt, rt.alloc(),
+    plays(
+        &rt,
+        rt.alloc(),
         &[
             Part::Bytes(b"OP\x02\x00"),
             Part::Count(DATA24_0.burst),

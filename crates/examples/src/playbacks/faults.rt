@@ -2,6 +2,7 @@
 use super::{Part, each_prints, plays, prints};
 use crate::bursts::DATA24_0;
 use std::alloc::Global;
+use std::process::Abort;
 use std::test::*;
 
 const FIRST: [(&[u8], &str); 4] = [
@@ -54,7 +55,9 @@ fn cut_records(rt: HostRuntime) -> Result<(), Fail> {
 // The second record wants one byte more than there is.
 #[test]
 fn a_long_burst_cut(rt: HostRuntime) -> Result<(), Fail> {
-    plays(&rt, rt.alloc(),
+    plays(
+        &rt,
+        rt.alloc(),
         &[
             Part::Bytes(b"OP\x02\x00"),
             Part::Count(DATA24_0.burst),
@@ -65,7 +68,13 @@ fn a_long_burst_cut(rt: HostRuntime) -> Result<(), Fail> {
     )
 }
 
-fn long_burst(rt: &impl Abort, alloc: Global, header: &[u8], samples: usize, lines: &str) -> Result<(), Fail> {
+fn long_burst(
+    rt: &impl Abort,
+    alloc: Global,
+    header: &[u8],
+    samples: usize,
+    lines: &str,
+) -> Result<(), Fail> {
     let mut bytes = header.to_vec(alloc)?;
     for _ in 0..samples {
         bytes.push(2)?;
@@ -75,6 +84,18 @@ fn long_burst(rt: &impl Abort, alloc: Global, header: &[u8], samples: usize, lin
 
 #[test]
 fn most_samples(rt: HostRuntime) -> Result<(), Fail> {
-    long_burst(&rt, rt.alloc(), b"OP\x00\x00HE\x04\x00", 1024, "O 0\nX 6 1024\n")?;
-    long_burst(&rt, rt.alloc(), b"OP\x00\x00HE\x04\x01", 1025, "O 0\nX 12 4\n")
+    long_burst(
+        &rt,
+        rt.alloc(),
+        b"OP\x00\x00HE\x04\x00",
+        1024,
+        "O 0\nX 6 1024\n",
+    )?;
+    long_burst(
+        &rt,
+        rt.alloc(),
+        b"OP\x00\x00HE\x04\x01",
+        1025,
+        "O 0\nX 12 4\n",
+    )
 }

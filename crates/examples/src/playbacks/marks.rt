@@ -30,7 +30,9 @@ fn bench(rt: HostRuntime) -> Result<(), Fail> {
 
 #[test]
 fn bcch(rt: HostRuntime) -> Result<(), Fail> {
-    plays(&rt, rt.alloc(),
+    plays(
+        &rt,
+        rt.alloc(),
         &[
             Part::Bytes(b"OP\x01\x00MISTREMI"),
             Part::Bytes(b"OP\x01\x01MI"),
@@ -49,7 +51,9 @@ fn bcch(rt: HostRuntime) -> Result<(), Fail> {
 
 #[test]
 fn data_2_4(rt: HostRuntime) -> Result<(), Fail> {
-    plays(&rt, rt.alloc(),
+    plays(
+        &rt,
+        rt.alloc(),
         &[
             Part::Bytes(b"OP\x02\x00STMIMIMISTRESTMI"),
             Part::Bytes(b"OP\x02\x01MIMIMI"),
@@ -66,7 +70,9 @@ fn data_2_4(rt: HostRuntime) -> Result<(), Fail> {
 
 #[test]
 fn data_9_6(rt: HostRuntime) -> Result<(), Fail> {
-    plays(&rt, rt.alloc(),
+    plays(
+        &rt,
+        rt.alloc(),
         &[
             Part::Bytes(b"OP\x03\x00STMIMIMISTRESTMI"),
             Part::Bytes(b"OP\x03\x01MIMIMI"),

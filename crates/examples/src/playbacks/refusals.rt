@@ -20,7 +20,9 @@ fn bench(rt: HostRuntime) -> Result<(), Fail> {
 // A block of wrong parity is counted, so the next one skips a number.
 #[test]
 fn wrong_parity_is_refused_and_counted(rt: HostRuntime) -> Result<(), Fail> {
-    plays(&rt, rt.alloc(),
+    plays(
+        &rt,
+        rt.alloc(),
         &[
             Part::Bytes(b"OP\x01\x00"),
             Part::Count(BCCH_WRONG_PARITY),
@@ -41,7 +43,9 @@ fn wrong_parity_is_refused_and_counted(rt: HostRuntime) -> Result<(), Fail> {
 
 #[test]
 fn wrong_numbers_of_samples(rt: HostRuntime) -> Result<(), Fail> {
-    plays(&rt, rt.alloc(),
+    plays(
+        &rt,
+        rt.alloc(),
         &[
             Part::Bytes(b"OP\x01\x00"),
             Part::Count(DATA24_0.burst),
@@ -62,7 +66,9 @@ fn wrong_numbers_of_samples(rt: HostRuntime) -> Result<(), Fail> {
 
 #[test]
 fn unfit_samples(rt: HostRuntime) -> Result<(), Fail> {
-    plays(&rt, rt.alloc(),
+    plays(
+        &rt,
+        rt.alloc(),
         &[
             Part::Bytes(b"OP\x01\x00"),
             Part::CountBut(BCCH_0.burst, 211, 3),
@@ -84,7 +90,9 @@ fn unfit_samples(rt: HostRuntime) -> Result<(), Fail> {
 // The ranked sample 2 is a weak zero, and the count kind has no sample of -127.
 #[test]
 fn samples_are_read_by_the_kind_opened(rt: HostRuntime) -> Result<(), Fail> {
-    plays(&rt, rt.alloc(),
+    plays(
+        &rt,
+        rt.alloc(),
         &[
             Part::Bytes(b"OP\x02\x01"),
             Part::RankedBut(DATA24_0.burst, 0, 2),
