@@ -3,8 +3,8 @@ use Rattle.std.specs.Prelude.{ℕ, List, [], ◌∷◌, ◌++◌, codes, decimal
 use Rattle.playback.specs.Lines.{bits, words, opened_line, restarted_line}
 use Rattle.playback.specs.declared.figures.Figures.{Figures}
 use Rattle.playback.specs.declared.figures.Figures.TheVariants.{Count, Ranked}
-use Rattle.playback.specs.declared.line.Line.{Line}
-use Rattle.playback.specs.declared.line.Line.TheVariants.{Opened, Block, Waiting, Stolen, Restarted, Refused}
+use Rattle.playback.specs.declared.printed.Line.{Line}
+use Rattle.playback.specs.declared.printed.Line.TheVariants.{Opened, Block, Waiting, Stolen, Restarted, Refused}
 
 -- the figures of a cost
 abbrev pub figured : Figures → List ℕ

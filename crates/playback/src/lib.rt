@@ -2,6 +2,6 @@
 #![tactic(auto)]
 
 mod figures;
-mod line;
 pub mod play;
+mod printed;
 mod sample;

@@ -8,7 +8,7 @@ ghost use Rattle.playback.specs.Playing.{weighed, CallsAfter, ReadsOpening, Turn
 ghost use Rattle.records.specs.Records.{said};
 
 use crate::figures::Figured;
-use crate::line::Line;
+use crate::printed::Line;
 use crate::sample::{Spelt, samples};
 use channels::channel::Channel;
 use cost::count::Count;

@@ -8,7 +8,7 @@ use Rattle.recording.specs.Playing.{Plays, Played, Turn, done, played, written, 
 use Rattle.recording.specs.Recordings.{Next, ends, faults, says}
 use Rattle.recording.specs.Records.{Said, Begins, spelling}
 use Rattle.recording.specs.declared.bench.Bench.{Bench}
-use Rattle.recording.specs.declared.line.Line.{Line}
+use Rattle.recording.specs.declared.printed.Line.{Line}
 
 -- a record is no longer than the bytes that begin with it
 begins_within : (bytes : List ℕ) (s : Said) → Begins bytes s → length (spelling s) ≤ length bytes

@@ -7,8 +7,8 @@ use Rattle.link.specs.declared.refusal.Refusal.{Refusal}
 use Rattle.link.specs.declared.report.Answer.{Answer}
 use Rattle.link.specs.declared.report.Answer.TheVariants as answers
 use Rattle.recording.specs.Records.{channel_byte}
-use Rattle.recording.specs.declared.line.Line.{Line}
-use Rattle.recording.specs.declared.line.Line.TheVariants.{Opened, Block, Waiting, Stolen, Restarted, Refused}
+use Rattle.recording.specs.declared.printed.Line.{Line}
+use Rattle.recording.specs.declared.printed.Line.TheVariants.{Opened, Block, Waiting, Stolen, Restarted, Refused}
 
 -- bits, one after the other
 abbrev pub figures : List ℕ → List ℕ

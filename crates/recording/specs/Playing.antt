@@ -9,8 +9,8 @@ use Rattle.recording.specs.Lines.{text, answer_line, stolen_line, refusal_line}
 use Rattle.recording.specs.Recordings.{Next, Spells}
 use Rattle.recording.specs.Records.{Said, opens, hears, misses, steals, restarts, spelling}
 use Rattle.recording.specs.declared.bench.Bench.{Bench}
-use Rattle.recording.specs.declared.line.Line.{Line}
-use Rattle.recording.specs.declared.line.Line.TheVariants.{Opened, Restarted}
+use Rattle.recording.specs.declared.printed.Line.{Line}
+use Rattle.recording.specs.declared.printed.Line.TheVariants.{Opened, Restarted}
 
 -- a call was answered, and the line tells the answer, with the message that the block memory then holds
 pub record Replied (call : Reply → Type 0) (after : Bench) (line : Line) : Type 0 where

@@ -2,7 +2,7 @@
 #![tactic(auto)]
 
 mod bench;
-mod line;
 pub mod play;
+mod printed;
 pub mod read;
 pub mod record;

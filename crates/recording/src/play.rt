@@ -4,7 +4,7 @@ ghost use Rattle.recording.specs.Playing.{Played, Turns, Wrote, written};
 ghost use Rattle.recording.specs.Records.{said, opens};
 
 use crate::bench::Bench;
-use crate::line::Line;
+use crate::printed::Line;
 use crate::read::next_record;
 use crate::record::{Channel, Kind, Record};
 use link::refusal::Refusal;

@@ -1,6 +1,6 @@
 use Rattle.std.proofs.Common.{◌≡◌, length, take, arith}
 use Rattle.std.proofs.lemmas.List.{take_all}
-use Rattle.playback.proofs.line.Line.told.Goals as goal
+use Rattle.playback.proofs.printed.Line.told.Goals as goal
 
 pub returns-in-Block : goal.returns-in-Block
 returns-in-Block g c =

@@ -1,7 +1,7 @@
 use Rattle.std.proofs.Common.{take}
 use Rattle.std.specs.Fmt.{IsPlainFormatter, HasWritten}
 use Rattle.playback.specs.Lines.{bits}
-use Rattle.playback.proofs.line.BitsDisplay.fmt.Given as goal
+use Rattle.playback.proofs.printed.BitsDisplay.fmt.Given as goal
 
 -- the bits so far have been written
 abbrev pub invariant-loop-bit : goal.invariant-loop-bit

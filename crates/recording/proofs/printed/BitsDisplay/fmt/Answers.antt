@@ -3,7 +3,7 @@ use Rattle.std.proofs.Output.{writes_in_calls_nil, has_written_append, has_writt
 use Rattle.std.proofs.lemmas.List.{take_all}
 use Rattle.recording.specs.Lines.{figures}
 use Rattle.recording.proofs.Figures.{figures_more}
-use Rattle.recording.proofs.line.BitsDisplay.fmt.Goals as goal
+use Rattle.recording.proofs.printed.BitsDisplay.fmt.Goals as goal
 
 pub loop-bit-init : goal.loop-bit-init
 loop-bit-init g c p = record { wrote = writes_in_calls_nil g.W.Write.write_str_gives c.args.f.now.writer; plain = p }

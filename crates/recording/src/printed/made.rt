@@ -1,7 +1,7 @@
 // Which line an answer makes.
 ghost use Rattle.std.specs.Prelude.{◌≡◌};
 ghost use Rattle.recording.specs.Lines.{answer_line, stolen_line, refusal_line, report_line};
-ghost use Rattle.recording.specs.declared.line.Line.TheVariants.{Opened, Restarted};
+ghost use Rattle.recording.specs.declared.printed.Line.TheVariants.{Opened, Restarted};
 
 use super::{Bits, Line};
 use crate::record::Channel;

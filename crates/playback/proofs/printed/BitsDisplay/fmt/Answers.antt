@@ -3,7 +3,7 @@ use Rattle.std.proofs.Output.{writes_in_calls_nil, has_written_append, has_writt
 use Rattle.std.proofs.lemmas.List.{take_all}
 use Rattle.playback.specs.Lines.{bits}
 use Rattle.playback.proofs.Bits.{bits_more}
-use Rattle.playback.proofs.line.BitsDisplay.fmt.Goals as goal
+use Rattle.playback.proofs.printed.BitsDisplay.fmt.Goals as goal
 
 pub loop-bit-init : goal.loop-bit-init
 loop-bit-init g c p = record { wrote = writes_in_calls_nil g.W.Write.write_str_gives c.args.f.now.writer; plain = p }
