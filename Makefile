@@ -1,13 +1,15 @@
 # make run plays the stored recording; make test is the gate.
+READBURST = crates/readburst/out/readburst
 RECORDING ?= crates/readburst/stdin
 
 .PHONY: run test
 
-run: target/bin/readburst
-	target/bin/readburst < $(RECORDING)
+run: $(READBURST)
+	$(READBURST) < $(RECORDING)
 
-target/bin/readburst: $(shell find crates -name '*.rt' -o -name '*.antt') crates.txt
-	rt check readburst
+# Proves the program, builds it, and runs it once on its stored recording.
+$(READBURST): $(shell find crates -path '*/out' -prune -o \( -name '*.rt' -o -name '*.antt' \) -print) crates.txt
+	cd crates/readburst && rt run < stdin > /dev/null
 
 test:
 	.ci/run
