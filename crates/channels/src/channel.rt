@@ -1,6 +1,6 @@
 // The channels by name.
 ghost use Rattle.channels.specs.Channels.{Tuned};
-ghost use Rattle.channels.specs.declared.channel.Channel.TheVariants as channels;
+ghost use Rattle.channels.specs.declared.channel.Channel.TheVariants.{Bench};
 
 use crate::bcch::open_bcch;
 use crate::bench;
@@ -34,7 +34,7 @@ impl Channel {
 
 // The bench, with the line type that the channels share.
 fn open_bench<C: Cost>() -> Receiver<C, Laying>
-    ensures { Tuned C.Cost channels.Bench result }
+    ensures { Tuned C.Cost Bench result }
 {
     match Receiver::<C, Laying>::open(
         bench::CODE,
