@@ -15,14 +15,14 @@ pub record Laws {C S P : Type 0} (k : Ghosts C S P) : Type 0 where
   pub total : (a b : C) → k.le a b ≡ false → k.le b a ≡ true
   pub trans : (a b c : C) → k.le a b ≡ true → k.le b c ≡ true → k.le a c ≡ true
   pub keeps : (a b : C) (s : S) (x : Bool) → k.fit s ≡ true → k.le a b ≡ true → k.le (k.grow a s x) (k.grow b s x) ≡ true
-  pub erased_fit : k.fit k.erased ≡ true
+  pub nothing_fit : k.fit k.NOTHING ≡ true
   pub laid : (a : C) → k.lift (k.lay a) ≡ a
 
 -- a kind that meets the trait obeys its laws
 pub laws_of : {M : Type 1} {𝓤 : Ura M} {𝓛 : Logic 𝓤} {𝓜 : Model 𝓤 𝓛.H} {𝓡 : Running 𝓤 𝓛.H 𝓜} {γ : Env} {C S P : RattleType} {k : Ghosts C.Denot S.Denot P.Denot} {d : Dict}
     {cost : Clone.Ghosts C.Denot} {cost_dict : Dict} {sample : Clone.Ghosts S.Denot} {sample_dict : Dict} {plain : Clone.Ghosts P.Denot} {plain_dict : Dict} →
     Met 𝓛 𝓜 𝓡 γ C S P k d cost cost_dict sample sample_dict plain plain_dict → Laws k
-laws_of m = record { total = m.total; trans = m.trans; keeps = m.keeps; erased_fit = m.erased_fit; laid = m.laid }
+laws_of m = record { total = m.total; trans = m.trans; keeps = m.keeps; nothing_fit = m.nothing_fit; laid = m.laid }
 
 module _ {C S P : Type 0} {k : Ghosts C S P} (laws : Laws k) where
   -- every cost is at most itself

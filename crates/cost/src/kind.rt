@@ -1,5 +1,5 @@
 // A kind of path cost: which samples it weighs, what one adds, and how two costs compare.
-ghost use Rattle.std.specs.Prelude.{◌≡◌, Bool, true, false, ◌≢◌};
+ghost use Rattle.std.specs.Prelude.{◌≡◌, Bool, true, false, ◌≢◌, if◌then◌else◌};
 ghost use Rattle.cost.specs.Room.{Roomy};
 
 pub trait Cost: Sized + Copy {
@@ -10,20 +10,25 @@ pub trait Cost: Sized + Copy {
     // The sample that means nothing was heard, and the samples of a bit heard clean.
     const NOTHING: Self::Sample;
 
+    ghost NOTHING: { Self.Sample };
+
     const CLEAN_ZERO: Self::Sample;
 
+    ghost CLEAN_ZERO: { Self.Sample };
+
     const CLEAN_ONE: Self::Sample;
+
+    ghost CLEAN_ONE: { Self.Sample };
+
+    // The cost of no samples.
+    const ZERO: Self;
+
+    ghost ZERO: { Self };
 
     // Which samples may be weighed, and which of them mean nothing.
     ghost fit: { Self.Sample → Bool };
 
     ghost silent: { Self.Sample → Bool };
-
-    ghost erased: { Self.Sample };
-
-    ghost clean: { Bool → Self.Sample };
-
-    ghost zero: { Self };
 
     ghost grow: { Self → Self.Sample → Bool → Self };
 
@@ -33,20 +38,22 @@ pub trait Cost: Sized + Copy {
 
     ghost lift: { Self.Plain → Self };
 
-    fn nothing_sample() -> Self::Sample
-        ensures { result ≡ erased };
-
+    // The clean sample of a bit.
     fn clean_sample(bit: bool) -> Self::Sample
-        ensures { result ≡ clean bit };
+        ensures { result ≡ if bit then CLEAN_ONE else CLEAN_ZERO }
+    {
+        if bit {
+            Self::CLEAN_ONE
+        } else {
+            Self::CLEAN_ZERO
+        }
+    }
 
     fn is_fit(s: Self::Sample) -> bool
         ensures { result ≡ fit s };
 
     fn is_silent(s: Self::Sample) -> bool
         ensures { result ≡ silent s };
-
-    fn free() -> Self
-        ensures { result ≡ zero };
 
     fn grown(self, s: Self::Sample, bit: bool) -> Self
         requires { fit s ≡ true }
@@ -76,23 +83,23 @@ pub trait Cost: Sized + Copy {
     ghost silence: { (a : Self) (s : Self.Sample) (x : Bool) → fit s ≡ true → silent s ≡ true → grow a s x ≡ a };
 
     // Law 5: a clean sample leaves every cost against its own bit, and raises zero against the other.
-    ghost agrees: { (a : Self) (x : Bool) → grow a (clean x) x ≡ a };
+    ghost agrees: { (a : Self) (x : Bool) → grow a (if x then CLEAN_ONE else CLEAN_ZERO) x ≡ a };
 
-    ghost differs_one: { le (grow zero (clean true) false) zero ≡ false };
+    ghost differs_one: { le (grow ZERO CLEAN_ONE false) ZERO ≡ false };
 
-    ghost differs_zero: { le (grow zero (clean false) true) zero ≡ false };
+    ghost differs_zero: { le (grow ZERO CLEAN_ZERO true) ZERO ≡ false };
 
     // The named samples are fit, and the first means nothing.
-    ghost erased_fit: { fit erased ≡ true };
+    ghost nothing_fit: { fit NOTHING ≡ true };
 
-    ghost erased_silent: { silent erased ≡ true };
+    ghost nothing_silent: { silent NOTHING ≡ true };
 
-    ghost clean_fit: { (x : Bool) → fit (clean x) ≡ true };
+    ghost clean_fit: { (x : Bool) → fit (if x then CLEAN_ONE else CLEAN_ZERO) ≡ true };
 
     // A cost laid down is taken up as itself, and a form that no cost lays down as zero.
     ghost laid: { (a : Self) → lift (lay a) ≡ a };
 
-    ghost unlaid: { (p : Self.Plain) → ((a : Self) → lay a ≢ p) → lift p ≡ zero };
+    ghost unlaid: { (p : Self.Plain) → ((a : Self) → lay a ≢ p) → lift p ≡ ZERO };
 
     // So many costs fit in memory, one for each window of the longest register.
     ghost roomy: { Roomy Self.row };

@@ -1,6 +1,6 @@
 // The count kind. Samples are bytes: 0 and 1 are bits heard, 2 means nothing, any other is unfit.
 ghost use Rattle.std.specs.Prelude.{◌≡◌, Bool, true, false, ◌==◌, nat_le, refl};
-ghost use Rattle.cost.specs.Counting.{counted, count_grown, clean_byte, count_lifted};
+ghost use Rattle.cost.specs.Counting.{counted, count_grown, count_lifted};
 ghost use Rattle.std.proofs.Common.{rules, arith};
 ghost use Rattle.cost.specs.SameCount.{same};
 ghost use Rattle.std.proofs.lemmas.Bool.{leb-true, cond_both};
@@ -15,19 +15,23 @@ impl Cost for Count {
 
     const NOTHING: u8 = 2;
 
+    ghost NOTHING = { 2 };
+
     const CLEAN_ZERO: u8 = 0;
 
+    ghost CLEAN_ZERO = { 0 };
+
     const CLEAN_ONE: u8 = 1;
+
+    ghost CLEAN_ONE = { 1 };
+
+    const ZERO: Count = Count { value: 0 };
+
+    ghost ZERO = { counted 0 };
 
     ghost fit = { λ s. nat_le s 2 };
 
     ghost silent = { λ s. (s == 2) };
-
-    ghost erased = { 2 };
-
-    ghost clean = { clean_byte };
-
-    ghost zero = { counted 0 };
 
     ghost grow = { count_grown };
 
@@ -61,9 +65,9 @@ impl Cost for Count {
 
     ghost differs_zero = { Prim.search rules };
 
-    ghost erased_fit = { Prim.search rules };
+    ghost nothing_fit = { Prim.search rules };
 
-    ghost erased_silent = { Prim.search rules };
+    ghost nothing_silent = { Prim.search rules };
 
     ghost clean_fit = { Prim.search rules };
 
@@ -77,28 +81,12 @@ impl Cost for Count {
 
     ghost roomy = { Prim.search rules };
 
-    fn nothing_sample() -> u8 {
-        Self::NOTHING
-    }
-
-    fn clean_sample(bit: bool) -> u8 {
-        if bit {
-            Self::CLEAN_ONE
-        } else {
-            Self::CLEAN_ZERO
-        }
-    }
-
     fn is_fit(s: u8) -> bool {
         s <= 2
     }
 
     fn is_silent(s: u8) -> bool {
         s == Self::NOTHING
-    }
-
-    fn free() -> Count {
-        Count { value: 0 }
     }
 
     // Without a branch: of the fit samples only a wrong bit gives 1.

@@ -1,6 +1,6 @@
 // The ranked kind. Samples are levels from -127 to 127: above 0 they favour bit 0, below 0 bit 1, 0 means nothing; -128 is unfit.
-ghost use Rattle.std.specs.Prelude.{◌≡◌, Bool, true, false, pos, ◌==◌, nat_le, unsigned_abs, refl};
-ghost use Rattle.cost.specs.Ranking.{ranked, ranked_grown, clean_level, ranked_le, ranked_laid, ranked_lifted, ranked_form};
+ghost use Rattle.std.specs.Prelude.{◌≡◌, Bool, true, false, pos, negsuc, ◌==◌, nat_le, unsigned_abs, refl};
+ghost use Rattle.cost.specs.Ranking.{ranked, ranked_grown, ranked_le, ranked_laid, ranked_lifted, ranked_form};
 ghost use Rattle.std.proofs.Common.{rules, arith};
 ghost use Rattle.cost.specs.SameRanked.{same};
 ghost use Rattle.std.proofs.lemmas.Bool.{cond_both};
@@ -21,19 +21,26 @@ impl Cost for Ranked {
 
     const NOTHING: i8 = 0;
 
+    ghost NOTHING = { pos 0 };
+
     const CLEAN_ZERO: i8 = 127;
 
+    ghost CLEAN_ZERO = { pos 127 };
+
     const CLEAN_ONE: i8 = -127;
+
+    ghost CLEAN_ONE = { negsuc 126 };
+
+    const ZERO: Ranked = Ranked {
+        count: 0,
+        strength: 0,
+    };
+
+    ghost ZERO = { ranked 0 0 };
 
     ghost fit = { λ s. nat_le (unsigned_abs s) 127 };
 
     ghost silent = { λ s. (unsigned_abs s == 0) };
-
-    ghost erased = { pos 0 };
-
-    ghost clean = { clean_level };
-
-    ghost zero = { ranked 0 0 };
 
     ghost grow = { ranked_grown };
 
@@ -59,9 +66,9 @@ impl Cost for Ranked {
 
     ghost differs_zero = { Prim.search rules };
 
-    ghost erased_fit = { Prim.search rules };
+    ghost nothing_fit = { Prim.search rules };
 
-    ghost erased_silent = { Prim.search rules };
+    ghost nothing_silent = { Prim.search rules };
 
     ghost clean_fit = { Prim.search rules };
 
@@ -74,31 +81,12 @@ impl Cost for Ranked {
 
     ghost roomy = { Prim.search rules };
 
-    fn nothing_sample() -> i8 {
-        Self::NOTHING
-    }
-
-    fn clean_sample(bit: bool) -> i8 {
-        if bit {
-            Self::CLEAN_ONE
-        } else {
-            Self::CLEAN_ZERO
-        }
-    }
-
     fn is_fit(s: i8) -> bool {
         s.unsigned_abs() <= 127
     }
 
     fn is_silent(s: i8) -> bool {
         s == Self::NOTHING
-    }
-
-    fn free() -> Ranked {
-        Ranked {
-            count: 0,
-            strength: 0,
-        }
     }
 
     // Without a jump: what the sample would add is worked out before the bit chooses.
@@ -133,7 +121,7 @@ impl Cost for Ranked {
                 strength: p.strength,
             }
         } else {
-            Self::free()
+            Self::ZERO
         }
     }
 }
