@@ -4,7 +4,8 @@ use Rattle.std.proofs.lemmas.List.FromFn.{get_or-map-range_with_len}
 use Rattle.std.proofs.lemmas.Bool.{cond_both, ltb-true}
 use Rattle.cost.specs.SameCount as count
 use Rattle.cost.specs.SameRanked as rank
-use Rattle.cost.specs.Counting.{clean_byte, counted}
+use Rattle.cost.specs.Counting.{counted}
+use Rattle.cost.specs.Samples.{clean}
 use Rattle.cost.specs.Ranking.{ranked}
 use Rattle.cost.specs.contracts.count.weigh.CountCost.TheImpl.{ghosts as count_kind}
 use Rattle.cost.specs.contracts.ranked.weigh.RankedCost.TheImpl.{ghosts as ranked_kind}
@@ -50,12 +51,12 @@ sends : Carries bench_terms run burst
 sends = record { whole = refl; bits = λ j k turned e. subst (Sent j) e (sent j) }
 
 -- counted, 000000 costs 3
-counts_zeros : bench_cost count_kind clean_byte (written 6 0b000000) ≡ counted 3
+counts_zeros : bench_cost count_kind (clean count_kind) (written 6 0b000000) ≡ counted 3
 unfolding cost_of
 counts_zeros = count.same _ _ refl
 
 -- counted, 110000 costs 3
-counts_ones : bench_cost count_kind clean_byte (written 6 0b110000) ≡ counted 3
+counts_ones : bench_cost count_kind (clean count_kind) (written 6 0b110000) ≡ counted 3
 unfolding cost_of
 counts_ones = count.same _ _ refl
 
@@ -70,7 +71,7 @@ unfolding cost_of
 ranks_ones = rank.same _ _ refl refl
 
 -- counted, the answer is the path of 000000
-counts_answer : bench_answer count_kind clean_byte ≡ Some (bench_path (written 6 0b000000))
+counts_answer : bench_answer count_kind (clean count_kind) ≡ Some (bench_path (written 6 0b000000))
 unfolding cost_of survivor
 counts_answer = refl
 

@@ -1,7 +1,8 @@
 -- Worked examples of the definitions.
 use Rattle.std.specs.Prelude.{◌≡◌, ℕ, Bool, true, false, List, ◌++◌, map, reverse, length, get_or, replicate, ℤ, pos, negsuc, Some, None, Option, slice_index_or}
 use Rattle.std.specs.List.{range_with_len}
-use Rattle.cost.specs.Counting.{clean_byte, counted}
+use Rattle.cost.specs.Counting.{counted}
+use Rattle.cost.specs.Samples.{clean}
 use Rattle.cost.specs.Ranking.{ranked}
 use Rattle.cost.specs.contracts.count.weigh.CountCost.TheImpl.{ghosts as count_kind}
 use Rattle.cost.specs.contracts.ranked.weigh.RankedCost.TheImpl.{ghosts as ranked_kind}
@@ -49,7 +50,7 @@ level false = pos 10
 module _ {C S P : Type 0} (k : cost.Ghosts C S P) (sample : Bool → S) where
   -- what coded place j of the bench meets
   abbrev pub bench_met : ℕ → List (S × Bool)
-  bench_met j = placed laying_line (λ p. get_or (map sample heard) p k.erased) (bench_terms.place j)
+  bench_met j = placed laying_line (λ p. get_or (map sample heard) p k.NOTHING) (bench_terms.place j)
 
   -- what a run costs
   abbrev pub bench_cost : List Bool → C
@@ -87,11 +88,11 @@ pub record WorkedExamples : Type 0 where
   -- and is sent as 1010100010100000
   pub sends : Carries bench_terms (written 6 0b100000) (written 16 0b1010100010100000)
   -- 1000000000100010 heard and counted: 000000 costs 3
-  pub counts_zeros : bench_cost count_kind clean_byte (written 6 0b000000) ≡ counted 3
+  pub counts_zeros : bench_cost count_kind (clean count_kind) (written 6 0b000000) ≡ counted 3
   -- 110000 costs 3 too
-  pub counts_ones : bench_cost count_kind clean_byte (written 6 0b110000) ≡ counted 3
+  pub counts_ones : bench_cost count_kind (clean count_kind) (written 6 0b110000) ≡ counted 3
   -- and the tie goes to 000000
-  pub counts_answer : bench_answer count_kind clean_byte ≡ Some (bench_path (written 6 0b000000))
+  pub counts_answer : bench_answer count_kind (clean count_kind) ≡ Some (bench_path (written 6 0b000000))
   -- the same heard and ranked, with strength 50 where a one is heard and 10 elsewhere: 000000 costs 3 samples of strength 150
   pub ranks_zeros : bench_cost ranked_kind level (written 6 0b000000) ≡ ranked 3 150
   -- 110000 costs 3 samples of strength 30

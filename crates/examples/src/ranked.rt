@@ -38,14 +38,14 @@ const GROWN: [(usize, i8, bool, (u16, u32)); 12] = [
 #[test]
 fn overruled_samples_add_up(rt: HostRuntime) -> Result<(), Fail> {
     for (times, sample, bit, sum) in GROWN {
-        assert_eq!(rt; pair(grown(Ranked::free(), times, sample, bit)), sum);
+        assert_eq!(rt; pair(grown(Ranked::ZERO, times, sample, bit)), sum);
     }
     Ok(())
 }
 
 #[test]
 fn at_the_last_count_other_samples_add_nothing(rt: HostRuntime) -> Result<(), Fail> {
-    let last = grown(Ranked::free(), 65_535, 1, true);
+    let last = grown(Ranked::ZERO, 65_535, 1, true);
     assert_eq!(rt; pair(grown(last, 1, 0, true)), (65_535, 65_535));
     assert_eq!(rt; pair(grown(last, 1, 127, false)), (65_535, 65_535));
     Ok(())
@@ -61,9 +61,9 @@ fn minus_128_is_unfit(rt: HostRuntime) -> Result<(), Fail> {
 
 #[test]
 fn counts_compare_before_strengths(rt: HostRuntime) -> Result<(), Fail> {
-    let weak = grown(Ranked::free(), 1, 126, true);
-    let strong = grown(Ranked::free(), 1, 127, true);
-    let two = grown(Ranked::free(), 2, 1, true);
+    let weak = grown(Ranked::ZERO, 1, 126, true);
+    let strong = grown(Ranked::ZERO, 1, 127, true);
+    let two = grown(Ranked::ZERO, 2, 1, true);
     assert!(rt; weak.at_most(strong) && !strong.at_most(weak));
     assert!(rt; strong.at_most(two) && !two.at_most(strong));
     assert!(rt; two.at_most(two));

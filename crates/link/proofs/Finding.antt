@@ -28,13 +28,13 @@ ready_for f costs paths h p =
 module _ {C S P L : Type 0} {k : cost.Ghosts C S P} (laws : Laws k) (l : line.Ghosts L) (f : Format L) where
   -- a weighed sample is fit
   weighed_fit : (s : S) → k.fit (weighed k s) ≡ true
-  weighed_fit s = cond_both (k.fit s) s k.erased (λ x. k.fit x ≡ true) (λ e. e) (λ e. laws.erased_fit)
+  weighed_fit s = cond_both (k.fit s) s k.NOTHING (λ x. k.fit x ≡ true) (λ e. e) (λ e. laws.nothing_fit)
 
   -- what is due in the ring is fit
   in_ring_fit : (ring : List S) (b p : ℕ) → k.fit (in_ring k f ring b p) ≡ true
   in_ring_fit ring b p =
-      let s = weighed k (get_or ring (cell f (burst_of f b p) p) k.erased) in
-      cond_both (ltb p f.burst) s k.erased (λ x. k.fit x ≡ true) (λ e. weighed_fit (get_or ring (cell f (burst_of f b p) p) k.erased)) (λ e. laws.erased_fit)
+      let s = weighed k (get_or ring (cell f (burst_of f b p) p) k.NOTHING) in
+      cond_both (ltb p f.burst) s k.NOTHING (λ x. k.fit x ≡ true) (λ e. weighed_fit (get_or ring (cell f (burst_of f b p) p) k.NOTHING)) (λ e. laws.nothing_fit)
 
   -- what the decoder leaves is the rule's answer on what is due
   pub found : (ring : List S) (b : ℕ) (cost : C) (decided : Option C) (heard n : ℕ) (paths : List ℕ) → decided ≡ Some cost → n ≡ steps f →

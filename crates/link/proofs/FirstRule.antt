@@ -108,13 +108,13 @@ module _ {C S P L : Type 0} (k : cost.Ghosts C S P) (f : Format L) where
     }
 
     -- the rules of a miss, which offers a burst of nothing samples
-    pub miss_guards : Laws k → Guards lent.ring (replicate f.burst k.erased) (first (miss_rules f lent counted))
+    pub miss_guards : Laws k → Guards lent.ring (replicate f.burst k.NOTHING) (first (miss_rules f lent counted))
     miss_guards laws = record {
       uncounted = first_tells Uncounted (miss_rules f lent counted)
           (by_rule _ _ refl, (by_rule _ _ refl, (by_rule _ _ refl, (by_rule _ _ refl, (by_rule _ _ refl, tt)))));
       storable = λ e. let none = first_none (miss_rules f lent counted) e in record {
         enough = leb-true (f.depth * f.burst) lent.ring (unless_none _ _ none.0);
-        whole = length-replicate f.burst k.erased;
-        fit = all_replicate (λ s. k.fit s ≡ true) f.burst k.erased laws.erased_fit;
+        whole = length-replicate f.burst k.NOTHING;
+        fit = all_replicate (λ s. k.fit s ≡ true) f.burst k.NOTHING laws.nothing_fit;
       };
     }

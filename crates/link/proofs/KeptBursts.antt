@@ -33,7 +33,7 @@ module _ {C S P L : Type 0} (k : cost.Ghosts C S P) (l : line.Ghosts L) (f : For
   pub record Keeps (ring : List S) (bursts : List (List S)) : Type 0 where
     pub whole : WholeBursts k l f bursts
     pub last : (i p : ℕ) → i < length bursts → length bursts ≤ i + f.depth → p < f.burst →
-        get_or ring (cell f i p) k.erased ≡ get_or (get_or bursts i []) p k.erased
+        get_or ring (cell f i p) k.NOTHING ≡ get_or (get_or bursts i []) p k.NOTHING
 
   -- any ring keeps the bursts of a receiver that has counted none
   pub keeps_none : (ring : List S) → Keeps ring []
@@ -48,16 +48,16 @@ module _ {C S P L : Type 0} (k : cost.Ghosts C S P) (l : line.Ghosts L) (f : For
   }
     where
       last_more : (i p : ℕ) → i < length bursts + 1 → length bursts + 1 ≤ i + f.depth → p < f.burst →
-          get_or (stored f (length bursts) samples ring) (cell f i p) k.erased ≡ get_or (get_or (bursts ++ (samples ∷ [])) i []) p k.erased
+          get_or (stored f (length bursts) samples ring) (cell f i p) k.NOTHING ≡ get_or (get_or (bursts ++ (samples ∷ [])) i []) p k.NOTHING
       last_more i p h near inside = elim (cases_eq i (length bursts)) [
         | inl e ↦
-            ap (λ j. get_or (stored f (length bursts) samples ring) (cell f j p) k.erased) e
-            ∙ stored_own f (length bursts) samples ring k.erased new.whole new.enough p inside
-            ∙ ap (λ burst. get_or burst p k.erased) (sym (get_or_push bursts samples [] i (sym e)))
+            ap (λ j. get_or (stored f (length bursts) samples ring) (cell f j p) k.NOTHING) e
+            ∙ stored_own f (length bursts) samples ring k.NOTHING new.whole new.enough p inside
+            ∙ ap (λ burst. get_or burst p k.NOTHING) (sym (get_or_push bursts samples [] i (sym e)))
         | inr ne ↦
-            stored_other f (length bursts) samples ring k.erased new.whole new.enough i p (omega arith) (omega arith) inside
+            stored_other f (length bursts) samples ring k.NOTHING new.whole new.enough i p (omega arith) (omega arith) inside
             ∙ old.last i p (omega arith) (omega arith) inside
-            ∙ ap (λ burst. get_or burst p k.erased) (sym (get_or_append_left bursts (samples ∷ []) [] i (omega arith)))
+            ∙ ap (λ burst. get_or burst p k.NOTHING) (sym (get_or_append_left bursts (samples ∷ []) [] i (omega arith)))
       ]
 
   -- what is due to a block whose last burst is the last one counted is read in the ring as in the list of bursts
@@ -74,23 +74,23 @@ module _ {C S P L : Type 0} (k : cost.Ghosts C S P) (l : line.Ghosts L) (f : For
       inside : (p : ℕ) → p < f.burst → in_ring k f ring b p ≡ in_bursts k f bursts b p
       inside p h =
           let read = keeps.last (burst_of f b p) p (among p) (omega arith) h in
-          let fit = All-get_or (λ s. k.fit s ≡ true) (get_or bursts (burst_of f b p) []) p k.erased (let e = (whole_at p).0 in omega arith) (whole_at p).1 in
+          let fit = All-get_or (λ s. k.fit s ≡ true) (get_or bursts (burst_of f b p) []) p k.NOTHING (let e = (whole_at p).0 in omega arith) (whole_at p).1 in
           cond-true (ltb p f.burst) _ _ (lt-ltb p f.burst h) ∙ ap (weighed k) read ∙ cond-true (k.fit (in_bursts k f bursts b p)) _ _ fit
 
       past : (p : ℕ) → f.burst ≤ p → in_ring k f ring b p ≡ in_bursts k f bursts b p
       past p h =
           cond-false (ltb p f.burst) _ _ (le-ltb p f.burst h)
-          ∙ sym (get_or_past (get_or bursts (burst_of f b p) []) p k.erased (let e = (whole_at p).0 in omega arith))
+          ∙ sym (get_or_past (get_or bursts (burst_of f b p) []) p k.NOTHING (let e = (whole_at p).0 in omega arith))
 
   -- whatever is due in whole bursts is fit
   pub due_fit : Laws k → (bursts : List (List S)) → WholeBursts k l f bursts → (b p : ℕ) → k.fit (in_bursts k f bursts b p) ≡ true
   due_fit laws bursts whole b p = elim (cases_lt (burst_of f b p) (length bursts)) [ inl h ↦ among h | inr h ↦ beyond h ]
     where
       beyond : length bursts ≤ burst_of f b p → k.fit (in_bursts k f bursts b p) ≡ true
-      beyond h = ap (λ burst. k.fit (get_or burst p k.erased)) (get_or_past bursts (burst_of f b p) [] h) ∙ laws.erased_fit
+      beyond h = ap (λ burst. k.fit (get_or burst p k.NOTHING)) (get_or_past bursts (burst_of f b p) [] h) ∙ laws.nothing_fit
 
       among : burst_of f b p < length bursts → k.fit (in_bursts k f bursts b p) ≡ true
       among h = elim (cases_lt p (length (get_or bursts (burst_of f b p) []))) [
-        | inl q ↦ All-get_or (λ s. k.fit s ≡ true) (get_or bursts (burst_of f b p) []) p k.erased q (All-get_or Whole bursts (burst_of f b p) [] h whole).1
-        | inr q ↦ ap k.fit (get_or_past (get_or bursts (burst_of f b p) []) p k.erased q) ∙ laws.erased_fit
+        | inl q ↦ All-get_or (λ s. k.fit s ≡ true) (get_or bursts (burst_of f b p) []) p k.NOTHING q (All-get_or Whole bursts (burst_of f b p) [] h whole).1
+        | inr q ↦ ap k.fit (get_or_past (get_or bursts (burst_of f b p) []) p k.NOTHING q) ∙ laws.nothing_fit
       ]

@@ -103,7 +103,7 @@ module _ {C S P L : Type 0} (k : cost.Ghosts C S P) (l : line.Ghosts L) where
 
   -- a burst that never came is counted as one of nothing samples only
   abbrev pub silence : Format L → List S
-  silence f = replicate f.burst k.erased
+  silence f = replicate f.burst k.NOTHING
 
   abbrev pub Misses : Receiver C L S P → Memory S P → Reply → Receiver C L S P → Memory S P → Type 0
   Misses r m = Judges (first (miss_rules r.format (sizes m) r.counted)) (silence r.format) r m

@@ -34,11 +34,11 @@ module _ {S L : Type 0} (l : line.Ghosts L) where
 module _ {C S P L : Type 0} (k : cost.Ghosts C S P) where
   -- the sample due to block b at burst place p, in the ring; past the burst there is none
   abbrev pub in_ring : Format L → List S → ℕ → ℕ → S
-  in_ring f ring b p = cond (nat_lt p f.burst) (weighed k (slice_index_or ring (cell f (burst_of f b p) p) k.erased)) k.erased
+  in_ring f ring b p = cond (nat_lt p f.burst) (weighed k (slice_index_or ring (cell f (burst_of f b p) p) k.NOTHING)) k.NOTHING
 
   -- the same in the list of bursts counted
   abbrev pub in_bursts : Format L → List (List S) → ℕ → ℕ → S
-  in_bursts f bursts b p = slice_index_or (slice_index_or bursts (burst_of f b p) []) p k.erased
+  in_bursts f bursts b p = slice_index_or (slice_index_or bursts (burst_of f b p) []) p k.NOTHING
 
 -- how many samples at the first n places do not mean nothing
 abbrev pub heard_of : {C S P : Type 0} → cost.Ghosts C S P → (ℕ → S) → ℕ → ℕ

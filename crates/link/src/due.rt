@@ -21,16 +21,16 @@ pub(crate) struct Due<'r, 'f, C: Cost, L: Line> {
 
 // What lies in a ring cell; an unfit sample is read as nothing.
 fn weigh<C: Cost>(ring: &[C::Sample], cell: usize) -> C::Sample
-    ensures { result ≡ weighed C.Cost (slice_index_or ring.now cell C.Cost.erased) }
+    ensures { result ≡ weighed C.Cost (slice_index_or ring.now cell C.Cost.NOTHING) }
 {
     if cell >= ring.len() {
-        return C::nothing_sample();
+        return C::NOTHING;
     }
     let sample = ring[cell];
     if C::is_fit(sample) {
         sample
     } else {
-        C::nothing_sample()
+        C::NOTHING
     }
 }
 
@@ -42,7 +42,7 @@ impl<'r, 'f, C: Cost, L: Line> Due<'r, 'f, C, L> {
         let depth = self.format.depth;
         let burst = self.format.burst;
         if place >= burst {
-            return C::nothing_sample();
+            return C::NOTHING;
         }
         let row = (self.block % depth + place % depth) % depth;
         weigh::<C>(self.ring, row * burst + place)

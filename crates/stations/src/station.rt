@@ -38,7 +38,7 @@ impl<C: Cost> Station<C> {
         let needs = receiver.needs();
         Ok(Station {
             receiver,
-            ring: filled(heap, C::nothing_sample(), needs.ring)?,
+            ring: filled(heap, C::NOTHING, needs.ring)?,
             costs: filled(heap, None, needs.costs)?,
             paths: filled(heap, 0, needs.paths)?,
             block: filled(heap, 0, needs.block)?,

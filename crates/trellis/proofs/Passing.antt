@@ -40,7 +40,7 @@ marks_more m t kept before after same below here u s h f = by_row (cases_eq u t)
 
 module _ {C S P : Type 0} (k : Ghosts C S P) (rows : List ℕ) (met : ℕ → List (S × Bool)) where
   -- the path without bits has no cost
-  laid_first : (t : Bool) → cond t (Some (k.lay k.zero)) None ≡ laid_cost k rows met (cond t (Some []) None)
+  laid_first : (t : Bool) → cond t (Some (k.lay k.ZERO)) None ≡ laid_cost k rows met (cond t (Some []) None)
   unfolding cost_of
   laid_first true = refl
   laid_first false = refl

@@ -13,7 +13,7 @@ met_same e = λ i j. e j i
 module _ {C S P : Type 0} (k : Ghosts C S P) where
   -- a fit sample is read as itself
   weighed_same : (s : S) → k.fit s ≡ true → weighed k s ≡ s
-  weighed_same s f = cond-true (k.fit s) s k.erased f
+  weighed_same s f = cond-true (k.fit s) s k.NOTHING f
 
   -- reading leaves what is fit
   pub read_same : (met : ℕ → List (S × Bool)) → Fit k met → (j : ℕ) → read k met j ≡ met j
@@ -26,7 +26,7 @@ module _ {C S P : Type 0} (k : Ghosts C S P) where
 module _ {C S P : Type 0} {k : Ghosts C S P} (laws : Laws k) where
   -- what is read of a sample is fit
   weighed_fit : (s : S) → k.fit (weighed k s) ≡ true
-  weighed_fit s = cond_both (k.fit s) s k.erased (λ w. k.fit w ≡ true) (λ f. f) (λ _. laws.erased_fit)
+  weighed_fit s = cond_both (k.fit s) s k.NOTHING (λ w. k.fit w ≡ true) (λ f. f) (λ _. laws.nothing_fit)
 
   -- reading makes all fit
   pub read_fit : (met : ℕ → List (S × Bool)) → Fit k (read k met)

@@ -104,12 +104,12 @@ module _ {C S P : Type 0} (k : Ghosts C S P) (rows : List ℕ) (met : ℕ → Li
     window_kept w h = by_path (kept_at k rows met m t (w / 2)) refl
       where
         by_path : (o : Option (List Bool)) → kept_at k rows met m t (w / 2) ≡ o → window_cost k old grown w ≡ cost_kept k rows met (extended (odd w) o)
-        by_path None e = ap (λ x. arrived x (get_or grown w k.zero)) (cells (w / 2) (omega arith) ∙ ap (laid_cost k rows met) e)
+        by_path None e = ap (λ x. arrived x (get_or grown w k.ZERO)) (cells (w / 2) (omega arith) ∙ ap (laid_cost k rows met) e)
         by_path (Some p) e =
             let cell : get_or old (w / 2) None ≡ Some (k.lay (cost_of k rows met p)) = cells (w / 2) (omega arith) ∙ ap (laid_cost k rows met) e in
-            let start : get_or spread w k.zero ≡ cost_of k rows met p = each w (k.lay (cost_of k rows met p)) cell ∙ lifts (cost_of k rows met p) in
+            let start : get_or spread w k.ZERO ≡ cost_of k rows met p = each w (k.lay (cost_of k rows met p)) cell ∙ lifts (cost_of k rows met p) in
             let wide : m + 1 ≡ suc m = omega arith in
-            ap (λ x. arrived x (get_or grown w k.zero)) cell
+            ap (λ x. arrived x (get_or grown w k.ZERO)) cell
             ∙ ap Some (more (suc m) w h (omega (arith, pow-suc 2 m))
             ∙ ap (λ c. grown_rows k rows met c (bits (suc m) w) (length rows * t) rows) start
             ∙ window_grown m t w p (ap (λ n. all_below (2 ^ n) rows) (sym wide) ∙ below) e)

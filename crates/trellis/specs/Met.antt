@@ -11,7 +11,7 @@ listed (Some x) = x ∷ []
 module _ {C S P : Type 0} (k : Ghosts C S P) where
   -- an unfit sample is read as nothing
   abbrev pub weighed : S → S
-  weighed s = cond (k.fit s) s k.erased
+  weighed s = cond (k.fit s) s k.NOTHING
 
   -- what is met, with unfit samples read as nothing
   abbrev pub read : (ℕ → List (S × Bool)) → ℕ → List (S × Bool)

@@ -24,5 +24,5 @@ module _ {C S P : Type 0} (k : Ghosts C S P) where
 
     -- zero, grown by each sample of a bit sent, in coded order
     unfoldable pub cost_of : List Bool → C
-    cost_of [] = k.zero
+    cost_of [] = k.ZERO
     cost_of (b ∷ p) = grown_rows (cost_of p) (b ∷ p) (length rows * length p) rows

@@ -27,11 +27,11 @@ arrived (Some x) c = Some c
 module _ {C S P : Type 0} (k : Ghosts C S P) where
   -- the cost of a window, if a path has reached it
   abbrev pub window_cost : List (Option P) → List C → ℕ → Option C
-  window_cost old costs w = arrived (slice_index_or old (w / 2) None) (slice_index_or costs w k.zero)
+  window_cost old costs w = arrived (slice_index_or old (w / 2) None) (slice_index_or costs w k.ZERO)
 
   -- each window has the cost of its old register
   abbrev pub Spread : List (Option P) → List C → Type 0
-  Spread old costs = (w : ℕ) (x : P) → slice_index_or old (w / 2) None ≡ Some x → slice_index_or costs w k.zero ≡ k.lift x
+  Spread old costs = (w : ℕ) (x : P) → slice_index_or old (w / 2) None ≡ Some x → slice_index_or costs w k.ZERO ≡ k.lift x
 
   -- the lower of two costs that meet, and the first where neither is dearer
   abbrev pub lower : Option C → Option C → Option C
@@ -58,16 +58,16 @@ module _ {C S P : Type 0} (k : Ghosts C S P) where
 
   -- before the first step only the empty register is reached, at no cost
   abbrev pub first_cell : ℕ → Option P
-  first_cell s = cond (s == 0) (Some (k.lay k.zero)) None
+  first_cell s = cond (s == 0) (Some (k.lay k.ZERO)) None
 
   -- where every window is reached: the lower of windows s and s + n stands in window s
   abbrev pub Chosen : ℕ → List C → List C → Type 0
   Chosen n costs chosen =
-      (s : ℕ) → s < n → slice_index_or chosen s k.zero ≡ cond (k.le (slice_index_or costs s k.zero) (slice_index_or costs (s + n) k.zero)) (slice_index_or costs s k.zero) (slice_index_or costs (s + n) k.zero)
+      (s : ℕ) → s < n → slice_index_or chosen s k.ZERO ≡ cond (k.le (slice_index_or costs s k.ZERO) (slice_index_or costs (s + n) k.ZERO)) (slice_index_or costs s k.ZERO) (slice_index_or costs (s + n) k.ZERO)
 
   -- and the path record tells, from `row` on, which of the two it was
   abbrev pub ChosenMarks : ℕ → List C → ℕ → List ℕ → Type 0
-  ChosenMarks n costs row paths = (s : ℕ) → s < n → slice_index paths (row + s) ≡ cond (k.le (slice_index_or costs s k.zero) (slice_index_or costs (s + n) k.zero)) 0 1
+  ChosenMarks n costs row paths = (s : ℕ) → s < n → slice_index paths (row + s) ≡ cond (k.le (slice_index_or costs s k.ZERO) (slice_index_or costs (s + n) k.ZERO)) 0 1
 
   -- each register keeps the lower of its two windows, laid down
   abbrev pub LaidLower : List (Option P) → List C → List (Option P) → Type 0
@@ -84,4 +84,4 @@ module _ {C S P : Type 0} (k : Ghosts C S P) where
     abbrev pub Grown : ℕ → ℕ → List C → List C → Type 0
     Grown windows t costs grown =
         (n w : ℕ) → w < windows → w < 2 ^ n →
-        slice_index_or grown w k.zero ≡ grown_rows k rows met (slice_index_or costs w k.zero) (bits n w) (length rows * t) rows
+        slice_index_or grown w k.ZERO ≡ grown_rows k rows met (slice_index_or costs w k.ZERO) (bits n w) (length rows * t) rows

@@ -41,7 +41,7 @@ fn weigh<C: Cost>(sample: C::Sample) -> C::Sample
     if C::is_fit(sample) {
         sample
     } else {
-        C::nothing_sample()
+        C::NOTHING
     }
 }
 
@@ -57,7 +57,7 @@ fn grow_row<C: Cost>(
     requires room { windows ≤ length costs.old }
     requires coded { start + windows ≤ length table.now }
     requires fit { C.Cost.fit sample ≡ true }
-    ensures { (w : ℕ) → w < windows → slice_index_or costs.new w C.Cost.zero ≡ C.Cost.grow (slice_index_or costs.old w C.Cost.zero) sample (xor (slice_index_or table.now (start + w) false) turned) }
+    ensures { (w : ℕ) → w < windows → slice_index_or costs.new w C.Cost.ZERO ≡ C.Cost.grow (slice_index_or costs.old w C.Cost.ZERO) sample (xor (slice_index_or table.now (start + w) false) turned) }
 {
     for w in 0..windows {
         costs[w] = costs[w].grown(sample, table[start + w] ^ turned);
@@ -159,7 +159,7 @@ fn choose<C: Cost>(costs: &mut [C], registers: usize, paths: &mut [u8], row: usi
 // Lays the costs of the first windows down, one in each register's cell.
 fn lay_down<C: Cost>(costs: &[C], new: &mut [Option<C::Plain>])
     requires { length new.old ≤ length costs.now }
-    ensures { (s : ℕ) → s < length new.old → slice_index_or new.new s None ≡ Some (C.Cost.lay (slice_index_or costs.now s C.Cost.zero)) }
+    ensures { (s : ℕ) → s < length new.old → slice_index_or new.new s None ≡ Some (C.Cost.lay (slice_index_or costs.now s C.Cost.ZERO)) }
 {
     for s in 0..new.len() {
         let cell = Some(costs[s].to_plain());
@@ -210,7 +210,7 @@ fn step<C: Cost, H: Received<Sample = C::Sample>>(
     ensures marks { (s : ℕ) → s < 2 ^ code.now.memory → Marked code.now.memory (kept_at C.Cost (rows_of code.now) (read C.Cost (H.Received.met heard.now)) code.now.memory) paths.new t s }
     ensures below { SameBelow (t * 2 ^ code.now.memory) paths.old paths.new }
 {
-    let mut windows = [C::free(); 32];
+    let mut windows = [C::ZERO; 32];
     let costs: &mut [C] = &mut windows;
     let whole = spread::<C>(old, costs);
     grow_rows::<C, H>(costs, 2 * old.len(), code, table, t, heard);
@@ -223,7 +223,7 @@ fn start<C: Cost>(cells: &mut [Option<C::Plain>])
 {
     for s in 0..cells.len() {
         let cell = if s == 0 {
-            Some(C::free().to_plain())
+            Some(C::ZERO.to_plain())
         } else {
             None
         };

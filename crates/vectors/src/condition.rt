@@ -50,7 +50,7 @@ impl Condition {
     pub(crate) fn heard<C: Cost>(self, n: usize, k: usize, bit: bool) -> C::Sample {
         match self {
             Condition::Noise if step(n, k) % NOISE == 0 => C::clean_sample(!bit),
-            Condition::Erasures if step(n, k) % ERASURES == 0 => C::nothing_sample(),
+            Condition::Erasures if step(n, k) % ERASURES == 0 => C::NOTHING,
             _ => C::clean_sample(bit),
         }
     }

@@ -80,7 +80,7 @@ impl<C: Cost, L: Line> Receiver<C, L> {
         ensures { Misses C.Cost L.Line self.old (lent ring.old costs.old paths.old block.old) result self.new (lent ring.new costs.new paths.new block.new) }
     {
         self.check_miss(ring.len(), costs.len(), paths.len(), block.len())?;
-        store_same(&self.format, self.counted, C::nothing_sample(), ring);
+        store_same(&self.format, self.counted, C::NOTHING, ring);
         self.count(ring, costs, paths, block)
     }
 

@@ -20,10 +20,10 @@ loop-w-preserved g c =
     let s = c.args.sample in
     let bit = get_or c.args.table.now (c.args.start + w) false in
     let within : w < length costs = omega arith in
-    let here : c.index-costs-w.result ≡ get_or c.args.costs.now w k.zero =
-    get_or_read costs w c.index-costs-w.result within c.index-costs-w.is k.zero ∙ c.loop-w.invariant.1 w (omega arith) in (
+    let here : c.index-costs-w.result ≡ get_or c.args.costs.now w k.ZERO =
+    get_or_read costs w c.index-costs-w.result within c.index-costs-w.is k.ZERO ∙ c.loop-w.invariant.1 w (omega arith) in (
       below_more _ _
-          (λ v h. let ne : v ≢ w = omega arith in get_or-set_other costs w v grown k.zero ne ∙ c.loop-w.invariant.0 v h)
-          (get_or-set_same costs w grown k.zero within ∙ c.grown.ensures ∙ ap₂ (λ a x. k.grow a s x) here (differ_xor bit c.args.turned)),
-      λ v h. let ne : v ≢ w = omega arith in get_or-set_other costs w v grown k.zero ne ∙ c.loop-w.invariant.1 v (omega arith),
+          (λ v h. let ne : v ≢ w = omega arith in get_or-set_other costs w v grown k.ZERO ne ∙ c.loop-w.invariant.0 v h)
+          (get_or-set_same costs w grown k.ZERO within ∙ c.grown.ensures ∙ ap₂ (λ a x. k.grow a s x) here (differ_xor bit c.args.turned)),
+      λ v h. let ne : v ≢ w = omega arith in get_or-set_other costs w v grown k.ZERO ne ∙ c.loop-w.invariant.1 v (omega arith),
     )

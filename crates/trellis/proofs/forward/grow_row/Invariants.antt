@@ -6,5 +6,5 @@ use Rattle.trellis.proofs.forward.grow_row.Given as goal
 abbrev pub invariant-loop-w : goal.invariant-loop-w
 invariant-loop-w g l =
     let k = g.C.Cost in
-    ((v : ℕ) → v < l.w → get_or l.costs v k.zero ≡ k.grow (get_or l.initial.costs v k.zero) l.sample (xor (get_or l.table (l.start + v) false) l.turned))
-    × ((v : ℕ) → l.w ≤ v → get_or l.costs v k.zero ≡ get_or l.initial.costs v k.zero)
+    ((v : ℕ) → v < l.w → get_or l.costs v k.ZERO ≡ k.grow (get_or l.initial.costs v k.ZERO) l.sample (xor (get_or l.table (l.start + v) false) l.turned))
+    × ((v : ℕ) → l.w ≤ v → get_or l.costs v k.ZERO ≡ get_or l.initial.costs v k.ZERO)

@@ -12,5 +12,5 @@ invariant-loop-i g l =
     let rows = rows_of l.code in
     let met = read k (g.H.Received.met l.heard) in
     (n w : ℕ) → w < l.windows → w < 2 ^ n →
-    grown_rows k rows met (get_or l.costs w k.zero) (bits n w) (length rows * l.t + l.i) (drop l.i rows)
-    ≡ grown_rows k rows met (get_or l.initial.costs w k.zero) (bits n w) (length rows * l.t) rows
+    grown_rows k rows met (get_or l.costs w k.ZERO) (bits n w) (length rows * l.t + l.i) (drop l.i rows)
+    ≡ grown_rows k rows met (get_or l.initial.costs w k.ZERO) (bits n w) (length rows * l.t) rows

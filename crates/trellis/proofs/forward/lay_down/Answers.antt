@@ -8,8 +8,8 @@ loop-s-preserved g c =
     let s = c.loop-s.s in
     let cell = Some c.to_plain.result in
     let here : s < length c.loop-s.new = omega arith in
-    let read : c.index-costs-s.result ≡ get_or c.args.costs.now s k.zero =
-    get_or_read c.args.costs.now s c.index-costs-s.result (omega arith) c.index-costs-s.is k.zero in
+    let read : c.index-costs-s.result ≡ get_or c.args.costs.now s k.ZERO =
+    get_or_read c.args.costs.now s c.index-costs-s.result (omega arith) c.index-costs-s.is k.ZERO in
     below_more _ _
     (λ v h. let ne : v ≢ s = omega arith in get_or-set_other c.loop-s.new s v cell None ne ∙ c.loop-s.invariant v h)
     (get_or-set_same c.loop-s.new s cell None here ∙ ap Some (c.to_plain.ensures ∙ ap k.lay read))

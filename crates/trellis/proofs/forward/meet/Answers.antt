@@ -22,10 +22,10 @@ returns-then-whole g c =
     let old = c.args.old.now in
     let costs = c.args.costs.now in
     let n = length old in
-    let reached = λ (w : ℕ) (h : w / 2 < n). arrived_some (get_or old (w / 2) None) (get_or costs w k.zero) (c.requires.whole c.if-whole.true (w / 2) h) in
+    let reached = λ (w : ℕ) (h : w / 2 < n). arrived_some (get_or old (w / 2) None) (get_or costs w k.ZERO) (c.requires.whole c.if-whole.true (w / 2) h) in
     record {
       cells = λ s h. c.lay_down.ensures s (omega arith) ∙ ap (λ x. Some (k.lay x)) (c.choose.ensures.kept s h)
-          ∙ laid_lower k (get_or costs s k.zero) (get_or costs (s + n) k.zero)
+          ∙ laid_lower k (get_or costs s k.ZERO) (get_or costs (s + n) k.ZERO)
           ∙ sym (ap₂ (λ x y. laid k (lower k x y)) (reached s (omega arith)) (reached (s + n) (omega arith)));
       marks = λ s h. c.choose.ensures.marks s h ∙ sym (ap₂ (mark k) (reached s (omega arith)) (reached (s + n) (omega arith)));
       below = c.choose.ensures.below;

@@ -17,9 +17,9 @@ loop-p-preserved g c =
           let here : get_or old p None ≡ Some w.in-Some.plain = sym cell ∙ w.in-Some.is in (
             λ v x h e. elim (cases_eq (v / 2) p) [
               | inl f ↦ let same : x ≡ w.in-Some.plain = let d : Some x ≡ Some w.in-Some.plain = sym e ∙ ap (λ q. get_or old q None) f ∙ here in cc in
-                  ap (λ cs. get_or cs v k.zero) w.costs-is ∙ window_written costs p v cost k.zero (omega arith) f
+                  ap (λ cs. get_or cs v k.ZERO) w.costs-is ∙ window_written costs p v cost k.ZERO (omega arith) f
                   ∙ w.of_plain-cost.ensures ∙ ap k.lift (sym same)
-              | inr f ↦ ap (λ cs. get_or cs v k.zero) w.costs-is ∙ window_other costs p v cost k.zero f ∙ c.loop-p.invariant.0 v x (omega arith) e
+              | inr f ↦ ap (λ cs. get_or cs v k.ZERO) w.costs-is ∙ window_other costs p v cost k.ZERO f ∙ c.loop-p.invariant.0 v x (omega arith) e
             ],
             λ t q h e. elim (cases_eq q p) [
               | inl f ↦ let d : None ≡ Some w.in-Some.plain = sym e ∙ ap (λ r. get_or old r None) f ∙ here in let z : ◌≡◌ {A = ℕ} 0 1 = cc in absurd (omega arith)
@@ -29,7 +29,7 @@ loop-p-preserved g c =
       | in-None w ↦ let here : get_or old p None ≡ None = sym cell ∙ w.in-None.is in (
         λ v x h e. elim (cases_eq (v / 2) p) [
           | inl f ↦ let d : None ≡ Some x = sym here ∙ ap (λ r. get_or old r None) (sym f) ∙ e in let z : ◌≡◌ {A = ℕ} 0 1 = cc in absurd (omega arith)
-          | inr f ↦ ap (λ cs. get_or cs v k.zero) w.costs-is ∙ c.loop-p.invariant.0 v x (omega arith) e
+          | inr f ↦ ap (λ cs. get_or cs v k.ZERO) w.costs-is ∙ c.loop-p.invariant.0 v x (omega arith) e
         ],
         λ t q h e. let d : false ≡ true = sym w.whole-is ∙ t in let z : ◌≡◌ {A = ℕ} 0 1 = cc in absurd (omega arith),
       )

@@ -11,9 +11,9 @@ loop-s-preserved g c =
     let cell = c.if-s-eq0.cell in
     let here : s < length c.loop-s.cells = omega arith in
     let written : cell ≡ first_cell k s = elim c.if-s-eq0.branch [
-      | then-s-eq0 w ↦ w.cell-is ∙ ap Some (w.to_plain.ensures ∙ ap k.lay w.free.ensures)
-          ∙ sym (cond-true (eqb s 0) (Some (k.lay k.zero)) None (eq-eqb s 0 w.if-s-eq0.true))
-      | else-s-eq0 w ↦ w.cell-is ∙ sym (cond-false (eqb s 0) (Some (k.lay k.zero)) None (ne_eqb s 0 w.if-s-eq0.false))
+      | then-s-eq0 w ↦ w.cell-is ∙ ap Some (w.to_plain.ensures ∙ ap k.lay w.ZERO.ensures)
+          ∙ sym (cond-true (eqb s 0) (Some (k.lay k.ZERO)) None (eq-eqb s 0 w.if-s-eq0.true))
+      | else-s-eq0 w ↦ w.cell-is ∙ sym (cond-false (eqb s 0) (Some (k.lay k.ZERO)) None (ne_eqb s 0 w.if-s-eq0.false))
     ] in
     below_more _ _
     (λ v h. let ne : v ≢ s = omega arith in get_or-set_other c.loop-s.cells s v cell None ne ∙ c.loop-s.invariant v h)

@@ -11,5 +11,5 @@ returns g c =
     let ring = c.args.self.now.ring.now in
     let p = c.args.place in
     c.weigh.ensures
-    ∙ ap (λ row. weighed k (get_or ring (row * f.burst + p) k.erased)) (mod-add-mod c.args.self.now.block f.depth (p % f.depth))
+    ∙ ap (λ row. weighed k (get_or ring (row * f.burst + p) k.NOTHING)) (mod-add-mod c.args.self.now.block f.depth (p % f.depth))
     ∙ sym (cond-true (ltb p f.burst) _ _ (lt-ltb p f.burst c.if-place-burst.false))

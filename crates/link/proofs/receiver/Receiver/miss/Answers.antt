@@ -21,5 +21,5 @@ returns g c =
     let m' = lent c.store_same.new.ring c.count.new.costs c.count.new.paths c.count.new.block in
     judges_taken g.C.Cost g.L.Line (silence g.C.Cost g.L.Line r.format) r m c.count.result (first (miss_rules r.format (sizes m) r.counted))
     c.count.new.self m' c.in_ok-check_miss.ensures
-    (c.store_same.ensures ∙ ap (λ s. stored r.format r.counted (replicate r.format.burst s) c.args.ring.now) c.nothing_sample.ensures)
+    (c.store_same.ensures ∙ ap (λ s. stored r.format r.counted (replicate r.format.burst s) c.args.ring.now) c.NOTHING.ensures)
     c.count.ensures
