@@ -3,7 +3,7 @@ ghost use Rattle.std.specs.Prelude.{◌*◌, ◌≤◌};
 
 pub mod weigh;
 
-#[derive(Clone, Copy)]
+#[derive(Clone, Copy, PartialEq, Eq, PartialOrd, Ord, Debug)]
 pub struct Ranked {
     count: u16,
     strength: u32,
@@ -12,7 +12,7 @@ pub struct Ranked {
 }
 
 // The plain form of a ranked cost, which may hold any two numbers.
-#[derive(Clone, Copy)]
+#[derive(Clone, Copy, PartialEq, Eq, Debug)]
 pub struct RankedForm {
     pub count: u16,
     pub strength: u32,

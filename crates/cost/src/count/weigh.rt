@@ -1,9 +1,9 @@
 // The count kind. Samples are bytes: 0 and 1 are bits heard, 2 means nothing, any other is unfit.
-ghost use Rattle.std.specs.Prelude.{◌≡◌, Bool, true, false, ◌==◌, nat_le, refl};
+ghost use Rattle.std.specs.Prelude.{◌≡◌, Bool, true, false, ◌==◌, nat_le};
 ghost use Rattle.cost.specs.Counting.{counted, count_grown, count_lifted};
-ghost use Rattle.std.proofs.Common.{rules, arith};
-ghost use Rattle.cost.specs.SameCount.{same};
-ghost use Rattle.std.proofs.lemmas.Bool.{leb-true, cond_both};
+ghost use Rattle.std.proofs.Common.{rules};
+ghost use denote.Struct.Record.{values_one};
+ghost use Rattle.cost.specs.contracts.count.Count.{struct, the_propositions};
 
 use super::Count;
 use crate::kind::Cost;
@@ -49,17 +49,9 @@ impl Cost for Count {
 
     ghost raises = { Prim.search rules };
 
-    ghost silence = { λ a s.
-        elim [
-          | true ↦ λ f e. let h = a.bound in same _ _ (Prim.search rules)
-          | false ↦ λ f e. let h = a.bound in same _ _ (Prim.search rules)
-        ] };
+    ghost silence = { Prim.search (rules, values_one struct the_propositions) };
 
-    ghost agrees = { λ a.
-        elim [
-          | true ↦ let h = a.bound in same _ _ (omega arith)
-          | false ↦ let h = a.bound in same _ _ (omega arith)
-        ] };
+    ghost agrees = { Prim.search (rules, values_one struct the_propositions) };
 
     ghost differs_one = { Prim.search rules };
 
@@ -71,13 +63,9 @@ impl Cost for Count {
 
     ghost clean_fit = { Prim.search rules };
 
-    ghost laid = { λ a. let h = a.bound in same _ _ (Prim.search rules) };
+    ghost laid = { Prim.search (rules, values_one struct the_propositions) };
 
-    ghost unlaid = { λ p never.
-        same _ _
-        (cond_both (nat_le p 65535) p 0 (λ x. (counted x).value ≡ 0)
-        (λ e. absurd (never (counted p) (omega (arith, leb-true p 65535 e))))
-        (λ e. refl)) };
+    ghost unlaid = { λ p never. let h = never (counted p) in Prim.search (rules, values_one struct the_propositions) };
 
     ghost roomy = { Prim.search rules };
 
@@ -89,16 +77,15 @@ impl Cost for Count {
         s == Self::NOTHING
     }
 
-    // Without a branch: of the fit samples only a wrong bit gives 1.
     fn grown(self, s: u8, bit: bool) -> Count {
-        let wrong = (s ^ bit as u8) == 1;
+        let wrong = s == !bit as u8;
         Count {
             value: self.value.saturating_add(wrong as u16),
         }
     }
 
     fn at_most(self, other: Count) -> bool {
-        self.value <= other.value
+        self <= other
     }
 
     fn to_plain(self) -> u16 {

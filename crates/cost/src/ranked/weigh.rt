@@ -1,18 +1,18 @@
 // The ranked kind. Samples are levels from -127 to 127: above 0 they favour bit 0, below 0 bit 1, 0 means nothing; -128 is unfit.
-ghost use Rattle.std.specs.Prelude.{◌≡◌, Bool, true, false, pos, negsuc, ◌==◌, nat_le, unsigned_abs, refl};
+ghost use Rattle.std.specs.Prelude.{◌≡◌, Bool, true, false, pos, negsuc, ◌==◌, nat_le, unsigned_abs};
 ghost use Rattle.cost.specs.Ranking.{ranked, ranked_grown, ranked_le, ranked_laid, ranked_lifted, ranked_form};
-ghost use Rattle.std.proofs.Common.{rules, arith};
-ghost use Rattle.cost.specs.SameRanked.{same};
-ghost use Rattle.std.proofs.lemmas.Bool.{cond_both};
-ghost use Rattle.cost.specs.RankedCostLemmas.{form_stays};
+ghost use Rattle.std.proofs.Common.{rules};
+ghost use denote.Struct.Record.{values_one};
+ghost use Rattle.cost.specs.contracts.ranked.Ranked.{struct, the_propositions};
 
 use super::{Ranked, RankedForm};
 use crate::kind::Cost;
 
 // The ceiling: the most samples, each at full strength.
-const MOST_COUNT: u16 = 65535;
-
-const MOST_STRENGTH: u32 = 127 * 65535;
+const CEILING: Ranked = Ranked {
+    count: 65535,
+    strength: 127 * 65535,
+};
 
 impl Cost for Ranked {
     type Sample = i8;
@@ -72,12 +72,9 @@ impl Cost for Ranked {
 
     ghost clean_fit = { Prim.search rules };
 
-    ghost laid = { λ a. let h = a.bound in let k = a.strong in same _ _ (Prim.search rules) (Prim.search rules) };
+    ghost laid = { Prim.search (rules, values_one struct the_propositions) };
 
-    ghost unlaid = { λ p never.
-        cond_both (ranked_form p) (ranked p.count p.strength) (ranked 0 0) (λ x. x ≡ ranked 0 0)
-        (λ e. absurd (never (ranked p.count p.strength) (form_stays p e)))
-        (λ e. refl) };
+    ghost unlaid = { λ p never. let h = never (ranked p.count p.strength) in Prim.search (rules, values_one struct the_propositions) };
 
     ghost roomy = { Prim.search rules };
 
@@ -91,19 +88,16 @@ impl Cost for Ranked {
 
     // Without a jump: what the sample would add is worked out before the bit chooses.
     fn grown(self, s: i8, bit: bool) -> Ranked {
-        let size = s.unsigned_abs() as u32;
         let overruled = if bit { s > 0 } else { s < 0 };
-        let past = overruled & (self.count == MOST_COUNT);
-        let strength = self.strength + overruled as u32 * size;
-        Ranked {
-            count: self.count.saturating_add(overruled as u16),
-            strength: if past { MOST_STRENGTH } else { strength },
+        let strength = self.strength + overruled as u32 * s.unsigned_abs() as u32;
+        match self.count.checked_add(overruled as u16) {
+            Some(count) => Ranked { count, strength },
+            None => CEILING,
         }
     }
 
     fn at_most(self, other: Ranked) -> bool {
-        (self.count < other.count)
-            | ((self.count == other.count) & (self.strength <= other.strength))
+        self <= other
     }
 
     fn to_plain(self) -> RankedForm {

@@ -1,6 +1,0 @@
-use Rattle.std.proofs.Common.{rules}
-use Rattle.cost.specs.SameRanked.{same}
-use Rattle.cost.proofs.ranked.weigh.RankedCost.of_plain.Goals as goal
-
-pub returns : goal.returns
-returns c = same _ _ (search rules) (search rules)
