@@ -2,8 +2,9 @@
 use Rattle.std.proofs.Common.{◌≡◌, ℕ, ◌<◌, Bool, false, ltb, List, get_or, Some, None, Option, sym, refl, ◌∙◌, subst, arith}
 use Rattle.std.proofs.lemmas.List.FromFn.{get_or-map-range_with_len}
 use Rattle.std.proofs.lemmas.Bool.{cond_both, ltb-true}
-use Rattle.cost.specs.SameCount as count
-use Rattle.cost.specs.SameRanked as rank
+use denote.Struct.Record.{values_one}
+use Rattle.cost.specs.contracts.count.Count as count
+use Rattle.cost.specs.contracts.ranked.Ranked as rank
 use Rattle.cost.specs.Counting.{counted}
 use Rattle.cost.specs.Samples.{clean}
 use Rattle.cost.specs.Ranking.{ranked}
@@ -53,22 +54,22 @@ sends = record { whole = refl; bits = λ j k turned e. subst (Sent j) e (sent j)
 -- counted, 000000 costs 3
 counts_zeros : bench_cost count_kind (clean count_kind) (written 6 0b000000) ≡ counted 3
 unfolding cost_of
-counts_zeros = count.same _ _ refl
+counts_zeros = values_one count.struct count.the_propositions _ _ refl
 
 -- counted, 110000 costs 3
 counts_ones : bench_cost count_kind (clean count_kind) (written 6 0b110000) ≡ counted 3
 unfolding cost_of
-counts_ones = count.same _ _ refl
+counts_ones = values_one count.struct count.the_propositions _ _ refl
 
 -- ranked, 000000 costs 3 samples of strength 150
 ranks_zeros : bench_cost ranked_kind level (written 6 0b000000) ≡ ranked 3 150
 unfolding cost_of
-ranks_zeros = rank.same _ _ refl refl
+ranks_zeros = values_one rank.struct rank.the_propositions _ _ refl
 
 -- ranked, 110000 costs 3 samples of strength 30
 ranks_ones : bench_cost ranked_kind level (written 6 0b110000) ≡ ranked 3 30
 unfolding cost_of
-ranks_ones = rank.same _ _ refl refl
+ranks_ones = values_one rank.struct rank.the_propositions _ _ refl
 
 -- counted, the answer is the path of 000000
 counts_answer : bench_answer count_kind (clean count_kind) ≡ Some (bench_path (written 6 0b000000))
