@@ -8,8 +8,7 @@ use Rattle.line.specs.Scrambler.{value, clocked, register, masking, number}
 
 -- a bit is 0 or 1
 bit_below : (b : Bool) → cond b 1 0 < 2
-bit_below true = omega arith
-bit_below false = omega arith
+bit_below = grind arith
 
 -- without its first bit a number is half of it
 number_half : (b : Bool) (bs : List Bool) → number (b ∷ bs) / 2 ≡ number bs
@@ -29,21 +28,17 @@ number_take (suc k) (b ∷ bs) =
     ∙ sym (mod-pow-add (number (b ∷ bs)) k 1)
     ∙ ap (λ n. number (b ∷ bs) % 2 ^ n) (add-one k)
 
--- a bit is 1 where it is set
-bit_set : (b : Bool) → eqb (cond b 1 0) 1 ≡ b
-bit_set true = refl
-bit_set false = refl
-
 -- bit k of the number is the bit at k
 pub number_at : (bs : List Bool) (k : ℕ) → eqb ((number bs / 2 ^ k) % 2) 1 ≡ get_or bs k false
 number_at [] k = ap (λ n. eqb (n % 2) 1) (zero-div (2 ^ k))
-number_at (b ∷ bs) zero = ap (λ n. eqb (n % 2) 1) (div-one (number (b ∷ bs))) ∙ ap (λ n. eqb n 1) (number_low b bs) ∙ bit_set b
+number_at (true ∷ bs) zero = rw (div-one, number_low)
+number_at (false ∷ bs) zero = rw (div-one, number_low)
 number_at (b ∷ bs) (suc k) =
     let on : suc k ≡ 1 + k = omega arith in
     ap (λ n. eqb (n % 2) 1) (ap (λ n. number (b ∷ bs) / 2 ^ n) on ∙ sym (shr-shr (number (b ∷ bs)) 1 k) ∙ ap (λ n. n / 2 ^ k) (number_half b bs))
     ∙ number_at bs k
 
--- the bit of a bool
+-- the byte of a bit
 byte_bit : (b : Bool) → bool_byte b ≡ cond b 1 0
 byte_bit true = refl
 byte_bit false = refl
@@ -66,27 +61,25 @@ later zero r = r
 later (suc n) r = later n (clocked r)
 
 -- the values of a register in n words of 64
-abbrev words : ℕ → List Bool → List ℕ
+abbrev pub words : ℕ → List Bool → List ℕ
 words zero r = []
 words (suc n) r = number (values 64 r) ∷ words n (later 64 r)
 
 -- the values from clock i on are those of the masking sequence
-pub values_at : (n k i : ℕ) → k < n → get_or (values n (register i)) k false ≡ masking (i + k)
-values_at zero k i h = absurd (omega arith)
-values_at (suc n) zero i h = let e : i ≡ i + 0 = omega arith in ap masking e
-values_at (suc n) (suc k) i h = let e : suc i + k ≡ i + suc k = omega arith in values_at n k (suc i) (omega arith) ∙ ap masking e
+pub values_at : (n k i j : ℕ) → k < n → j ≡ i + k → get_or (values n (register i)) k false ≡ masking j
+values_at zero k i j h e = absurd (omega arith)
+values_at (suc n) zero i j h e = grind arith
+values_at (suc n) (suc k) i j h e = values_at n k (suc i) j (omega arith) (omega arith)
 
 -- n clocks after clock i
-later_register : (n i : ℕ) → later n (register i) ≡ register (i + n)
-later_register zero i = let e : i ≡ i + 0 = omega arith in ap register e
-later_register (suc n) i = let e : suc i + n ≡ i + suc n = omega arith in later_register n (suc i) ∙ ap register e
+later_register : (n i j : ℕ) → j ≡ i + n → later n (register i) ≡ register j
+later_register zero i j e = grind arith
+later_register (suc n) i j e = later_register n (suc i) j (omega arith)
 
 -- from clock i on, word w holds 64 values
-pub words_at : (n w i : ℕ) → w < n → get_or (words n (register i)) w 0 ≡ number (values 64 (register (i + w * 64)))
-words_at zero w i h = absurd (omega arith)
-words_at (suc n) zero i h = let e : i ≡ i + 0 * 64 = omega arith in ap (λ k. number (values 64 (register k))) e
-words_at (suc n) (suc w) i h =
-    let e : i + 64 + w * 64 ≡ i + suc w * 64 = omega arith in
-    ap (λ r. get_or (words n r) w 0) (later_register 64 i)
-    ∙ words_at n w (i + 64) (omega arith)
-    ∙ ap (λ k. number (values 64 (register k))) e
+pub words_at : (n w i j : ℕ) → w < n → j ≡ i + w * 64 → get_or (words n (register i)) w 0 ≡ number (values 64 (register j))
+words_at zero w i j h e = absurd (omega arith)
+words_at (suc n) zero i j h e = let d : i ≡ j = omega arith in ap (λ k. number (values 64 (register k))) d
+words_at (suc n) (suc w) i j h e =
+    ap (λ r. get_or (words n r) w 0) (later_register 64 i (i + 64) refl)
+    ∙ words_at n w (i + 64) j (omega arith) (omega arith)

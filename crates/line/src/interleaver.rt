@@ -43,10 +43,8 @@ impl<L: Line> Line for Interleaved<L> {
     }
 
     fn place_of(&self, j: usize) -> Option<(usize, bool)> {
-        match self.0.place_of(j) {
-            Some((k, turned)) => Some((moved(self.0.burst_bits(), k), turned)),
-            None => None,
-        }
+        let (k, turned) = self.0.place_of(j)?;
+        Some((moved(self.0.burst_bits(), k), turned))
     }
 }
 

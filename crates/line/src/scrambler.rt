@@ -62,10 +62,8 @@ impl<L: Line> Line for Scrambled<L> {
     }
 
     fn place_of(&self, j: usize) -> Option<(usize, bool)> {
-        match self.0.place_of(j) {
-            Some((k, turned)) => Some((k, turned != masked(k))),
-            None => None,
-        }
+        let (k, turned) = self.0.place_of(j)?;
+        Some((k, turned != masked(k)))
     }
 }
 
@@ -73,10 +71,9 @@ impl<L: Line> Line for Scrambled<L> {
 fn masked(k: usize) -> bool
     ensures { result ≡ masking k }
 {
-    if k < 1024 {
-        bit(MASKING[k / 64], k % 64)
-    } else {
-        value(run(k))
+    match MASKING.get(k / 64) {
+        Some(word) => bit(*word, k % 64),
+        None => value(run(k)),
     }
 }
 

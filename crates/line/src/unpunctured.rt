@@ -40,10 +40,6 @@ impl Line for Unpunctured {
     }
 
     fn place_of(&self, j: usize) -> Option<(usize, bool)> {
-        if j < self.bits {
-            Some((j, false))
-        } else {
-            None
-        }
+        (j < self.bits).then_some((j, false))
     }
 }

@@ -1,14 +1,13 @@
-use Rattle.std.proofs.Common.{◌≡◌, ◌+◌, ◌*◌, ◌/◌, ◌%◌, ap, ◌∙◌, arith}
-use Rattle.line.specs.Scrambler.{masking, register}
-use Rattle.line.proofs.Registers.{values, values_at, words_at}
+use Rattle.std.proofs.Common.{◌≡◌, ◌*◌, ◌/◌, ◌%◌, get_or, ◌∙◌, arith, rules}
+use Rattle.line.specs.Scrambler.{register}
+use Rattle.line.proofs.Registers.{values, values_at, words, words_at}
 use Rattle.line.proofs.scrambler.masked.Goals as goal
 
 -- the words of the table are, by computation, those that the register gives
-pub returns-then-k-lt1024 : goal.returns-then-k-lt1024
-returns-then-k-lt1024 c =
+pub returns-in-Some : goal.returns-in-Some
+returns-in-Some c =
     let k = c.args.k in
-    let first = 0 + k / 64 * 64 in
-    let e : first + k % 64 ≡ k = omega arith in
-    c.bit.ensures (values 64 (register first)) (words_at 16 (k / 64) 0 (omega arith))
-    ∙ values_at 64 (k % 64) first (omega arith)
-    ∙ ap masking e
+    let first = k / 64 * 64 in
+    let found : c.in-Some.word.now ≡ get_or (words 16 (register 0)) (k / 64) 0 = search rules in
+    c.bit.ensures (values 64 (register first)) (found ∙ words_at 16 (k / 64) 0 first (search rules) (omega arith))
+    ∙ values_at 64 (k % 64) first k (omega arith) (omega arith)
