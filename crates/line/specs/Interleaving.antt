@@ -24,7 +24,7 @@ module _ (N : ℕ) where
 
   -- the sources of places of N rows are places of N rows
   source_within : (p : ℕ) → p < 8 * N → source p < 8 * N
-  source_within p h = omega (arith, mod_below p N (omega arith))
+  source_within p h = grind (arith, mod_below p N)
 
   -- the place that place k goes to has k as its source
   source_of_spread : (k : ℕ) → k < 8 * N → source (spread N k) ≡ k
@@ -45,35 +45,23 @@ module _ (N : ℕ) where
 
   -- the source of p goes to p
   spread_of_source : (p : ℕ) → p < 8 * N → spread N (source p) ≡ p
-  spread_of_source p h = omega (arith, ap (λ n. N * n) (source_column p h), div-add-mod p N)
+  spread_of_source p h = grind (arith, source_column p, div-add-mod p N)
 
 -- every place of a burst moves to one of its places
 pub moved_within : (bits k : ℕ) → k < bits → moved bits k < bits
-moved_within bits k h = by_rows (whole_rows bits) refl
-  where
-    by_rows : (b : Bool) → whole_rows bits ≡ b → cond b (spread (bits / 8) k) k < bits
-    by_rows true e = let r : bits % 8 ≡ 0 = eqb-true _ _ e in omega (arith, spread_within (bits / 8) k (omega arith))
-    by_rows false e = h
+moved_within bits k h = grind (arith, spread_within (bits / 8) k, eqb-true (bits % 8) 0)
 
 -- no two places of a burst move to one place
 pub moved_apart : (bits k m : ℕ) → k < bits → m < bits → moved bits k ≡ moved bits m → k ≡ m
-moved_apart bits k m h o = by_rows (whole_rows bits) refl
-  where
-    by_rows : (b : Bool) → whole_rows bits ≡ b → cond b (spread (bits / 8) k) k ≡ cond b (spread (bits / 8) m) m → k ≡ m
-    by_rows true e s =
-        let r : bits % 8 ≡ 0 = eqb-true _ _ e in
-        sym (source_of_spread (bits / 8) k (omega arith))
-        ∙ ap (source (bits / 8)) s
-        ∙ source_of_spread (bits / 8) m (omega arith)
-    by_rows false e s = s
+moved_apart bits k m h o s = grind (arith, source_of_spread (bits / 8) k, source_of_spread (bits / 8) m, eqb-true (bits % 8) 0)
+
+-- the place whose bit goes to place p
+abbrev from : ℕ → ℕ → ℕ
+from bits p = cond (whole_rows bits) (source (bits / 8) p) p
 
 -- to every place of a burst one of its places moves
 pub moved_onto : (bits p : ℕ) → p < bits → (k : ℕ) × (k < bits) × (moved bits k ≡ p)
-moved_onto bits p h = by_rows (whole_rows bits) refl
-  where
-    by_rows : (b : Bool) → whole_rows bits ≡ b → (k : ℕ) × (k < bits) × (cond b (spread (bits / 8) k) k ≡ p)
-    by_rows true e =
-        let r : bits % 8 ≡ 0 = eqb-true _ _ e in
-        let q : p < 8 * (bits / 8) = omega arith in
-        (source (bits / 8) p, omega (arith, source_within (bits / 8) p q), spread_of_source (bits / 8) p q)
-    by_rows false e = (p, h, refl)
+moved_onto bits p h =
+    (from bits p,
+     grind (arith, source_within (bits / 8) p, eqb-true (bits % 8) 0),
+     grind (arith, spread_of_source (bits / 8) p, eqb-true (bits % 8) 0))

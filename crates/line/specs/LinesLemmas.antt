@@ -9,25 +9,15 @@ use Rattle.line.specs.Scrambler.{sum, masking, scrambled}
 use Rattle.line.specs.Interleaving.{moved_within, moved_apart, moved_onto}
 use Rattle.line.specs.Lawful.{Laws}
 
--- the place in an answer, 0 where nothing is sent
-abbrev pub place_in : Option (ℕ × Bool) → ℕ
-place_in None = 0
-place_in (Some v) = v.0
-
--- the turn in an answer, false where nothing is sent
-abbrev turn_in : Option (ℕ × Bool) → Bool
-turn_in None = false
-turn_in (Some v) = v.1
-
 -- an answer of the interleaver is one of the line below, at a place that moves to the answered one
 interleaved_from : (bits : ℕ) (o : Option (ℕ × Bool)) (p : ℕ) (t : Bool) → interleaved bits o ≡ Some (p, t) → (k : ℕ) × (o ≡ Some (k, t)) × (moved bits k ≡ p)
-interleaved_from bits None p t e = let z : ◌≡◌ {A = ℕ} 0 1 = cc in absurd (omega arith)
-interleaved_from bits (Some (k, u)) p t e = (k, ap (λ b. Some (k, b)) (ap turn_in e), ap place_in e)
+interleaved_from bits None p t e = absurd cc
+interleaved_from bits (Some (k, u)) p t e = (k, search rules, search rules)
 
 -- an answer of the scrambler is one of the line below, at the same place
 scrambled_from : (o : Option (ℕ × Bool)) (k : ℕ) (t : Bool) → scrambled o ≡ Some (k, t) → (u : Bool) × (o ≡ Some (k, u))
-scrambled_from None k t e = let z : ◌≡◌ {A = ℕ} 0 1 = cc in absurd (omega arith)
-scrambled_from (Some (p, u)) k t e = (u, ap (λ n. Some (n, u)) (ap place_in e))
+scrambled_from None k t e = absurd cc
+scrambled_from (Some (p, u)) k t e = (u, search rules)
 
 -- every coded bit has its own place
 pub unpunctured_laws : Laws unpunctured_line
@@ -43,37 +33,28 @@ module _ {L : Type 0} {below : Ghosts L} (laws : Laws below) where
   pub interleaved_laws : Laws (interleaved_line below)
   interleaved_laws = record {
     within = λ l j p t e.
-        let bits = below.sent l.0 in
-        let a = interleaved_from bits (below.place l.0 j) p t e in
-        subst (λ n. n < bits) a.2 (moved_within bits a.0 (laws.within l.0 j a.0 t a.1));
+        let a = interleaved_from _ _ p t e in
+        rw (← a.2) (moved_within _ _ (laws.within l.0 j a.0 t a.1));
     apart = λ l i j p t u e f.
-        let bits = below.sent l.0 in
-        let a = interleaved_from bits (below.place l.0 i) p t e in
-        let b = interleaved_from bits (below.place l.0 j) p u f in
-        let h : a.0 < bits = laws.within l.0 i a.0 t a.1 in
-        let o : b.0 < bits = laws.within l.0 j b.0 u b.1 in
-        let s : a.0 ≡ b.0 = moved_apart bits a.0 b.0 h o (a.2 ∙ sym b.2) in
-        laws.apart l.0 i j a.0 t u a.1 (b.1 ∙ ap (λ k. Some (k, u)) (sym s));
+        let a = interleaved_from _ _ p t e in
+        let b = interleaved_from _ _ p u f in
+        let s : a.0 ≡ b.0 = moved_apart _ _ _ (laws.within l.0 i a.0 t a.1) (laws.within l.0 j b.0 u b.1) (a.2 ∙ sym b.2) in
+        laws.apart l.0 i j a.0 t u a.1 (rw s b.1);
     filled = λ l p h.
-        let bits = below.sent l.0 in
-        let from = moved_onto bits p h in
+        let from = moved_onto _ p h in
         let at = laws.filled l.0 from.0 from.1 in
-        (at.0, at.1, ap (interleaved bits) at.2 ∙ ap (λ k. Some (k, at.1)) from.2);
-    ended = λ l j h. ap (interleaved (below.sent l.0)) (laws.ended l.0 j h);
+        (at.0, at.1, rw (at.2, from.2));
+    ended = λ l j h. rw laws.ended;
   }
 
   -- the places stay
   pub scrambled_laws : Laws (scrambled_line below)
   scrambled_laws = record {
-    within = λ l j k t e.
-        let a = scrambled_from (below.place l.0 j) k t e in
-        laws.within l.0 j k a.0 a.1;
+    within = λ l j k t e. let a = scrambled_from _ k t e in laws.within l.0 j k a.0 a.1;
     apart = λ l i j k t u e f.
-        let a = scrambled_from (below.place l.0 i) k t e in
-        let b = scrambled_from (below.place l.0 j) k u f in
+        let a = scrambled_from _ k t e in
+        let b = scrambled_from _ k u f in
         laws.apart l.0 i j k a.0 b.0 a.1 b.1;
-    filled = λ l k h.
-        let at = laws.filled l.0 k h in
-        (at.0, sum at.1 (masking k), ap scrambled at.2);
+    filled = λ l k h. let at = laws.filled l.0 k h in (at.0, sum at.1 (masking k), ap scrambled at.2);
     ended = λ l j h. ap scrambled (laws.ended l.0 j h);
   }
