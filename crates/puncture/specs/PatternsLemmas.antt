@@ -1,11 +1,10 @@
 -- Patterns of kept bits: how many they keep, and how the kept ones are numbered.
 use Rattle.std.specs.Prelude.{◌≡◌, ℕ, zero, suc, ◌+◌, ◌-◌, ◌*◌, ◌/◌, ◌%◌, ◌<◌, ◌≤◌, Bool, true, false, cond, List, [], ◌∷◌, ◌++◌, length, take, replicate, Some, None, Option, slice_index_or, refl}
-use Rattle.std.proofs.Common.{sym, ap, ap₂, ◌∙◌, inl, inr, mul-zero, arith}
+use Rattle.std.proofs.Common.{sym, ap, ap₂, ◌∙◌, inl, inr, mul-zero, arith, rules}
 use Rattle.std.proofs.Math.Seq.{take-append-add}
 use Rattle.std.proofs.lemmas.Nat.{div-add-mod', div_below, mod_below}
 use Rattle.std.proofs.lemmas.List.{length-append, length-replicate, get_or_append_left, get_or-append-add, get_or-take, get_or_past, take-take, take-append-le, get_or-replicate, take-replicate}
 use Rattle.std.proofs.lemmas.Bool.{cases_order, cond-true, false≢true}
-use Rattle.line.specs.LinesLemmas.{place_in}
 use Rattle.puncture.specs.Patterns.{kept, numbered, raised, times_over}
 
 -- a bit's answer, by whether it is kept and by its number
@@ -65,7 +64,7 @@ numbered_from : (p : List Bool) (j k : ℕ) (t : Bool) → numbered p j ≡ Some
 numbered_from p j k t e = by (slice_index_or p j false) (kept (take j p)) e
   where
     by : (b : Bool) (n : ℕ) → answer b n ≡ Some (k, t) → (b ≡ true) × (n ≡ k)
-    by true n e = (refl, ap place_in e)
+    by true n e = (refl, search rules)
     by false n e = let z : ◌≡◌ {A = ℕ} 0 1 = cc in absurd (omega arith)
 
 -- every number answered is one of the kept bits'
