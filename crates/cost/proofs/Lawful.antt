@@ -1,5 +1,5 @@
 -- The laws of a kind of cost as one record, for lemmas that hold of every kind.
-use Rattle.std.proofs.Common.{◌≡◌, Bool, true, false, refl}
+use Rattle.std.proofs.Common.{◌≡◌, Bool, true, false, arith}
 use seplogic.Ra.Ura.{Ura}
 use prog.Model.{Model}
 use prog.Routine.{Env}
@@ -18,7 +18,7 @@ pub record Laws {C S P : Type 0} (k : Ghosts C S P) : Type 0 where
   pub nothing_fit : k.fit k.NOTHING ≡ true
   pub laid : (a : C) → k.lift (k.lay a) ≡ a
 
--- a kind that meets the trait obeys its laws
+-- the laws that come with a bound, from what an answer has of it
 pub laws_of : {M : Type 1} {𝓤 : Ura M} {𝓛 : Logic 𝓤} {𝓜 : Model 𝓤 𝓛.H} {𝓡 : Running 𝓤 𝓛.H 𝓜} {γ : Env} {C S P : RattleType} {k : Ghosts C.Denot S.Denot P.Denot} {d : Dict}
     {cost : Clone.Ghosts C.Denot} {cost_dict : Dict} {sample : Clone.Ghosts S.Denot} {sample_dict : Dict} {plain : Clone.Ghosts P.Denot} {plain_dict : Dict} →
     Met 𝓛 𝓜 𝓡 γ C S P k d cost cost_dict sample sample_dict plain plain_dict → Laws k
@@ -27,8 +27,4 @@ laws_of m = record { total = m.total; trans = m.trans; keeps = m.keeps; nothing_
 module _ {C S P : Type 0} {k : Ghosts C S P} (laws : Laws k) where
   -- every cost is at most itself
   pub le_refl : (a : C) → k.le a a ≡ true
-  le_refl a = by_test (k.le a a) refl
-    where
-      by_test : (t : Bool) → k.le a a ≡ t → k.le a a ≡ true
-      by_test true e = e
-      by_test false e = laws.total a a e
+  le_refl a = grind (arith, laws.total a a)

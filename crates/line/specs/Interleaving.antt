@@ -1,5 +1,5 @@
 -- The interleaver moves the places of a burst among themselves, each to a place of its own.
-use Rattle.std.specs.Prelude.{◌≡◌, ℕ, ◌+◌, ◌*◌, ◌/◌, ◌%◌, ◌<◌, ◌≤◌, Bool, true, false, cond, refl}
+use Rattle.std.specs.Prelude.{◌≡◌, ℕ, ◌+◌, ◌*◌, ◌/◌, ◌%◌, ◌<◌, ◌≤◌, cond}
 use Rattle.std.proofs.Common.{sym, ap, ◌∙◌, mul_comm, mul-le-mul_left, mod-eq_of_lt, arith}
 use Rattle.std.proofs.Math.Nat.{mul-add-mod_self_left, div-add-mod}
 use Rattle.std.proofs.lemmas.Nat.{div-mul-add, mod-mul-add, div_below, mod_below}
@@ -61,7 +61,8 @@ from bits p = cond (whole_rows bits) (source (bits / 8) p) p
 
 -- to every place of a burst one of its places moves
 pub moved_onto : (bits p : ℕ) → p < bits → (k : ℕ) × (k < bits) × (moved bits k ≡ p)
-moved_onto bits p h =
-    (from bits p,
-     grind (arith, source_within (bits / 8) p, eqb-true (bits % 8) 0),
-     grind (arith, spread_of_source (bits / 8) p, eqb-true (bits % 8) 0))
+moved_onto bits p h = (
+  from bits p,
+  grind (arith, source_within (bits / 8) p, eqb-true (bits % 8) 0),
+  grind (arith, spread_of_source (bits / 8) p, eqb-true (bits % 8) 0),
+)

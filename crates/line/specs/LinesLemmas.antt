@@ -1,6 +1,6 @@
 -- The lines by name keep the laws of a line, each layer where the line below keeps them.
-use Rattle.std.specs.Prelude.{◌≡◌, ℕ, ◌<◌, Bool, false, Some, None, Option}
-use Rattle.std.proofs.Common.{sym, ap, ◌∙◌, subst, arith, rules}
+use Rattle.std.specs.Prelude.{◌≡◌, ℕ, Bool, false, Some, None, Option}
+use Rattle.std.proofs.Common.{sym, ap, ◌∙◌, rules}
 use Rattle.std.proofs.lemmas.Bool.{cond_below}
 use Rattle.line.specs.declared.laying.Line.{Ghosts}
 use Rattle.line.specs.Interleaver.{moved, interleaved}

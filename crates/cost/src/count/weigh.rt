@@ -49,6 +49,7 @@ impl Cost for Count {
 
     ghost raises = { Prim.search rules };
 
+    // By `values_one` two counts are one where their numbers are.
     ghost silence = { Prim.search (rules, values_one struct the_propositions) };
 
     ghost agrees = { Prim.search (rules, values_one struct the_propositions) };

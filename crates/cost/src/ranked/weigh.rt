@@ -72,6 +72,7 @@ impl Cost for Ranked {
 
     ghost clean_fit = { Prim.search rules };
 
+    // By `values_one` two costs are one where their numbers are.
     ghost laid = { Prim.search (rules, values_one struct the_propositions) };
 
     ghost unlaid = { λ p never. let h = never (ranked p.count p.strength) in Prim.search (rules, values_one struct the_propositions) };
