@@ -1,7 +1,8 @@
 // The interleaver over any line: rows of eight bits are sent column by column.
-ghost use Rattle.std.specs.Prelude.{◌≡◌, ◌&&◌};
-ghost use Rattle.line.specs.Interleaver.{whole_rows, moved, interleaved};
+ghost use Rattle.std.specs.Prelude.{◌≡◌};
+ghost use Rattle.line.specs.Interleaver.{moved};
 ghost use Rattle.line.specs.Lawful.{laws_of};
+ghost use Rattle.line.specs.Lines.{interleaved_line};
 ghost use Rattle.line.specs.LinesLemmas.{interleaved_laws};
 
 use crate::laying::Line;
@@ -14,13 +15,13 @@ const COLUMNS: [usize; 8] = [0, 5, 2, 7, 4, 1, 6, 3];
 pub struct Interleaved<L: Line>(pub L);
 
 impl<L: Line> Line for Interleaved<L> {
-    ghost coded = { λ l. L.Line.coded l.0 };
+    ghost coded = { (interleaved_line L.Line).coded };
 
-    ghost sent = { λ l. L.Line.sent l.0 };
+    ghost sent = { (interleaved_line L.Line).sent };
 
-    ghost suited = { λ l. L.Line.suited l.0 && whole_rows (L.Line.sent l.0) };
+    ghost suited = { (interleaved_line L.Line).suited };
 
-    ghost place = { λ l j. interleaved (L.Line.sent l.0) (L.Line.place l.0 j) };
+    ghost place = { (interleaved_line L.Line).place };
 
     ghost within = { (interleaved_laws (laws_of L.Line)).within };
 

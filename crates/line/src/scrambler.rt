@@ -1,8 +1,9 @@
 // The scrambler over any line: bits are turned over where the masking sequence has a one.
 ghost use Rattle.std.specs.Prelude.{◌≡◌, ◌<◌, Bool, false, List, slice_index_or};
 ghost use Rattle.line.specs.Lawful.{laws_of};
+ghost use Rattle.line.specs.Lines.{scrambled_line};
 ghost use Rattle.line.specs.LinesLemmas.{scrambled_laws};
-ghost use Rattle.line.specs.Scrambler.{masking, number, register, scrambled, value};
+ghost use Rattle.line.specs.Scrambler.{masking, number, register, value};
 
 use crate::laying::Line;
 
@@ -33,13 +34,13 @@ const LOADED: u64 = 0x4d4b;
 pub struct Scrambled<L: Line>(pub L);
 
 impl<L: Line> Line for Scrambled<L> {
-    ghost coded = { λ l. L.Line.coded l.0 };
+    ghost coded = { (scrambled_line L.Line).coded };
 
-    ghost sent = { λ l. L.Line.sent l.0 };
+    ghost sent = { (scrambled_line L.Line).sent };
 
-    ghost suited = { λ l. L.Line.suited l.0 };
+    ghost suited = { (scrambled_line L.Line).suited };
 
-    ghost place = { λ l j. scrambled (L.Line.place l.0 j) };
+    ghost place = { (scrambled_line L.Line).place };
 
     ghost within = { (scrambled_laws (laws_of L.Line)).within };
 

@@ -1,6 +1,5 @@
 // The line that sends every coded bit, in coded order and unturned.
-ghost use Rattle.std.specs.Prelude.{◌≡◌, true};
-ghost use Rattle.line.specs.Layouts.{in_order};
+ghost use Rattle.line.specs.Lines.{unpunctured_line};
 ghost use Rattle.line.specs.LinesLemmas.{unpunctured_laws};
 
 use crate::laying::Line;
@@ -11,13 +10,13 @@ pub struct Unpunctured {
 }
 
 impl Line for Unpunctured {
-    ghost coded = { λ l. l.bits };
+    ghost coded = { unpunctured_line.coded };
 
-    ghost sent = { λ l. l.bits };
+    ghost sent = { unpunctured_line.sent };
 
-    ghost suited = { λ l. true };
+    ghost suited = { unpunctured_line.suited };
 
-    ghost place = { λ l j. in_order l.bits j };
+    ghost place = { unpunctured_line.place };
 
     ghost within = { unpunctured_laws.within };
 
