@@ -10,6 +10,7 @@ use line::interleaver::Interleaved;
 use line::scrambler::Scrambled;
 use link::receiver::Receiver;
 use puncture::mask::Mask;
+use puncture::mask::tables::Tables;
 use trellis::code::Code;
 
 // Rows 1 + D^2 + D^4, 1 + D + D^3 + D^4, 1 + D + D^2 + D^3 + D^4, 1 + D^2 + D^3 + D^4 and 1 + D + D^2 + D^4.
@@ -35,10 +36,18 @@ pub const TIMES: usize = 41;
 
 pub const SUFFIX: [&[u8]; 5] = [&[1, 1, 1], &[1, 0, 1], &[1, 0, 1], &[0, 1, 0], &[0, 1, 1]];
 
+pub const MASKS: Tables<'static> = Tables {
+    steps: STEPS,
+    prefix: Some(&PREFIX),
+    middle: &MIDDLE,
+    times: TIMES,
+    suffix: Some(&SUFFIX),
+};
+
 fn mask() -> Mask
     ensures { Lays data24_masks result }
 {
-    Mask::new(STEPS, Some(&PREFIX), &MIDDLE, TIMES, Some(&SUFFIX))
+    Mask::new(&MASKS)
 }
 
 // A receiver for the 2.4 kbit/s data channel, which always opens.

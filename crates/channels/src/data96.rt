@@ -11,6 +11,7 @@ use line::interleaver::Interleaved;
 use line::scrambler::Scrambled;
 use link::receiver::Receiver;
 use puncture::mask::Mask;
+use puncture::mask::tables::Tables;
 use trellis::code::Code;
 
 // The code of the broadcast control channel.
@@ -32,10 +33,18 @@ pub const TIMES: usize = 158;
 
 pub const SUFFIX: [&[u8]; 2] = [&[1, 1, 1, 1, 1], &[1, 1, 0, 1, 0]];
 
+pub const MASKS: Tables<'static> = Tables {
+    steps: STEPS,
+    prefix: Some(&PREFIX),
+    middle: &MIDDLE,
+    times: TIMES,
+    suffix: Some(&SUFFIX),
+};
+
 fn mask() -> Mask
     ensures { Lays data96_masks result }
 {
-    Mask::new(STEPS, Some(&PREFIX), &MIDDLE, TIMES, Some(&SUFFIX))
+    Mask::new(&MASKS)
 }
 
 // A receiver for the 9.6 kbit/s data channel, which always opens.

@@ -1,51 +1,39 @@
--- What sound tables are made of, and the mask that is packed of them.
-use Rattle.std.proofs.Common.{◌≡◌, ℕ, ◌+◌, ◌-◌, ◌*◌, ◌/◌, ◌<◌, ◌≤◌, true, ◌&&◌, eqb, leb, length, Some, None, Option, sym, ap, ◌∙◌, inl, inr, mul_assoc, mul_comm, mul-le-mul_left, mul-add, arith}
-use Rattle.std.proofs.lemmas.Nat.{div_below, le-div, mul-le}
-use Rattle.std.proofs.lemmas.Bool.{and_parts, cases_lt, cond-true, eqb-true, le-leb, leb-true, lt-leb}
-use Rattle.std.proofs.lemmas.Bool.Decides.{nat_tests}
-use Rattle.puncture.specs.Packing.{length_bits}
+-- Sound masks: what their tables hold, and how long their pattern is.
+use Rattle.std.proofs.Common.{◌≡◌, ℕ, ◌+◌, ◌-◌, ◌*◌, ◌^◌, ◌<◌, ◌≤◌, true, false, ◌&&◌, eqb, leb, length, Some, None, Option, sym, refl, ap, ◌∙◌, mul_assoc, mul_comm, mul-add, arith}
+use Rattle.std.proofs.lemmas.Nat.{mul-le}
+use Rattle.std.proofs.lemmas.List.{length-replicate}
+use Rattle.std.proofs.lemmas.Bool.{and_parts, cond-false, cond-true, eqb-true, leb-true}
+use Rattle.std.specs.List.{list_all}
 use Rattle.puncture.proofs.Tables.{length_columns}
+use Rattle.puncture.specs.Masking.{length_strips}
+use Rattle.puncture.specs.PatternsLemmas.{length_laid_out}
 use Rattle.puncture.specs.Patterns.{kept, laid_out, numbered}
 use Rattle.puncture.specs.Laying.{Lays}
-use Rattle.puncture.specs.Masks.{Masks, Table, coded_of, covered, end_flat, end_width, flat, pattern, sound, sound_end, sound_middle, sound_period, sound_rows, sound_tables, width}
-use Rattle.puncture.specs.Strips.{held, pattern_of}
+use Rattle.puncture.specs.Masks.{Masks, Table, coded_of, covered, end_flat, end_width, flat, pattern, sound, sound_end, sound_middle, sound_period, sound_row, sound_tables, width}
+use Rattle.puncture.specs.Strips.{held, pattern_of, suits}
 use Rattle.puncture.specs.declared.mask.Mask.{Mask}
 use Rattle.puncture.specs.declared.mask.strip.Strip.{Strip}
 
--- a factor may be taken to the other side as a divisor
-pub leb_div : (a b k : ℕ) → 0 < k → leb a (b / k) ≡ leb (a * k) b
-leb_div a b k h = elim (cases_lt b (a * k)) [
-  | inl o ↦ lt-leb a (b / k) (div_below b k a h o) ∙ sym (lt-leb (a * k) b o)
-  | inr o ↦ le-leb a (b / k) (le-div a b k h o) ∙ sym (le-leb (a * k) b o)
-]
-
--- a summand may be taken to the other side
-pub leb_after : (a x b : ℕ) → a ≤ b → leb x (b - a) ≡ leb (a + x) b
-leb_after a x b h = grind (arith, nat_tests)
-
--- sound tables: their rows, columns and entries
-pub record Alike (before : Option Table) (t : Table) (after : Option Table) : Type 0 where
-  pub some : 1 ≤ length t
-  pub long : length (flat t) ≡ length t * width t
-  pub short : length (flat t) ≤ 60
-  pub front : length (end_flat before) ≡ length t * end_width before
-  pub front_short : length (end_flat before) ≤ 60
-  pub back : length (end_flat after) ≡ length t * end_width after
-  pub back_short : length (end_flat after) ≤ 60
+-- what is so of sound masks: how many entries their tables have, and that these lie within the steps
+pub record Fits (m : Masks) : Type 0 where
+  pub short : length (flat m.middle) ≤ 60
+  pub front : length (end_flat m.prefix) ≡ length m.middle * end_width m.prefix
+  pub front_short : length (end_flat m.prefix) ≤ 60
+  pub back : length (end_flat m.suffix) ≡ length m.middle * end_width m.suffix
+  pub back_short : length (end_flat m.suffix) ≤ 60
+  pub within : covered m ≤ m.steps
+  pub ranged : length m.middle * m.steps ≤ 18446744073709551615
 
 -- a table has the entries of its columns
 flat_long : (t : Table) → length (flat t) ≡ length t * width t
 flat_long t = length_columns t 0 (width t) ∙ mul_comm (width t) (length t)
 
--- a sound period is of 12 columns at most
-period_narrow : (t : Table) → sound_period t ≡ true → width t ≤ 12
-period_narrow t e =
-    let w = (and_parts (leb 1 (width t) && leb (width t) 12) (sound_rows (width t) t) e).0 in
-    leb-true (width t) 12 (and_parts (leb 1 (width t)) (leb (width t) 12) w).1
-
 -- five rows of a sound period have 60 entries at most
 flat_short : (t : Table) → length t ≤ 5 → sound_period t ≡ true → length (flat t) ≤ 60
-flat_short t few e = omega (arith, flat_long t, mul-le (length t) (width t) 5 12 few (period_narrow t e))
+flat_short t few e =
+    let w = (and_parts (leb 1 (width t) && leb (width t) 12) (list_all (sound_row (width t)) t) e).0 in
+    let narrow = leb-true (width t) 12 (and_parts (leb 1 (width t)) (leb (width t) 12) w).1 in
+    omega (arith, flat_long t, mul-le (length t) (width t) 5 12 few narrow)
 
 -- a sound table before or after the middle has as many rows
 end_long : (rows : ℕ) (o : Option Table) → rows ≤ 5 → sound_end rows o ≡ true → (length (end_flat o) ≡ rows * end_width o) × (length (end_flat o) ≤ 60)
@@ -55,76 +43,61 @@ end_long rows (Some t) few e =
     let same = eqb-true (length t) rows a.0 in
     (flat_long t ∙ ap (λ n. n * width t) same, flat_short t (omega arith) a.1)
 
--- tables found sound are
-pub alike : (before : Option Table) (t : Table) (after : Option Table) → sound_tables before t after ≡ true → Alike before t after
-alike before t after e =
-    let rows = length t in
-    let a = and_parts (sound_middle t) (sound_end rows before && sound_end rows after) e in
-    let ends = and_parts (sound_end rows before) (sound_end rows after) a.1 in
-    let m = and_parts (leb 1 rows && leb rows 5) (sound_period t) a.0 in
-    let n = and_parts (leb 1 rows) (leb rows 5) m.0 in
-    let few = leb-true rows 5 n.1 in
-    let f = end_long rows before few ends.0 in
-    let b = end_long rows after few ends.1 in
+pub fits : (m : Masks) → sound m ≡ true → Fits m
+fits m e =
+    let rows = length m.middle in
+    let fit = leb (covered m) m.steps in
+    let ranged = leb (rows * m.steps) 18446744073709551615 in
+    let a = and_parts (sound_tables m) (fit && ranged) e in
+    let b = and_parts fit ranged a.1 in
+    let t = and_parts (sound_middle m.middle) (sound_end rows m.prefix && sound_end rows m.suffix) a.0 in
+    let ends = and_parts (sound_end rows m.prefix) (sound_end rows m.suffix) t.1 in
+    let p = and_parts (leb 1 rows && leb rows 5) (sound_period m.middle) t.0 in
+    let few = leb-true rows 5 (and_parts (leb 1 rows) (leb rows 5) p.0).1 in
+    let front = end_long rows m.prefix few ends.0 in
+    let back = end_long rows m.suffix few ends.1 in
     record {
-      some = leb-true 1 rows n.0;
-      long = flat_long t;
-      short = flat_short t few m.1;
-      front = f.0;
-      front_short = f.1;
-      back = b.0;
-      back_short = b.1;
+      short = flat_short m.middle few p.1;
+      front = front.0;
+      front_short = front.1;
+      back = back.0;
+      back_short = back.1;
+      within = leb-true _ _ b.0;
+      ranged = leb-true _ _ b.1;
     }
 
--- a sound mask has sound tables within its steps, and a number of coded bits within the range
-pub sound_parts : (m : Masks) → sound m ≡ true → Alike m.prefix m.middle m.suffix × (covered m ≤ m.steps) × (length m.middle * m.steps ≤ 18446744073709551615)
-sound_parts m e =
-    let fit = leb (covered m) m.steps in
-    let ranged = leb (length m.middle * m.steps) 18446744073709551615 in
-    let a = and_parts (sound_tables m.prefix m.middle m.suffix) (fit && ranged) e in
-    let b = and_parts fit ranged a.1 in
-    (alike m.prefix m.middle m.suffix a.0, leb-true _ _ b.0, leb-true _ _ b.1)
-
--- the entries of the columns that prefix p, suffix s and k middles w cover
-covered_entries : (rows p s k w : ℕ) → rows * (p + s + k * w) ≡ rows * p + k * (rows * w) + rows * s
-covered_entries rows p s k w =
+-- entries of prefix p, k middles w and suffix s, and of the columns left of n
+entries : (rows p k w n s : ℕ) → p + s + k * w ≤ n → rows * p + k * (rows * w) + rows * (n - (p + s + k * w)) + rows * s ≡ rows * n
+entries rows p k w n s h =
     let turn : rows * (k * w) ≡ k * (rows * w) = sym (mul_assoc rows k w) ∙ ap (λ n. n * w) (mul_comm rows k) ∙ mul_assoc k rows w in
-    omega (arith, mul-add rows (p + s) (k * w), mul-add rows p s)
+    let all : n ≡ (p + s + k * w) + (n - (p + s + k * w)) = omega arith in
+    omega (arith, ap (λ x. rows * x) all, mul-add rows (p + s + k * w) (n - (p + s + k * w)), mul-add rows (p + s) (k * w), mul-add rows p s)
 
--- strips that hold the tables of a sound mask, in n coded bits
-module _ (m : Masks) (ok : sound m ≡ true) (a b d : Strip) (front : held a ≡ end_flat m.prefix) (middle : held b ≡ flat m.middle) (back : held d ≡ end_flat m.suffix)
-    (n : ℕ) (coded : n ≡ length m.middle * m.steps) where
-  -- they have the entries of the covered columns
-  strips_long : a.length + m.times * b.length + d.length ≡ length m.middle * covered m
-  strips_long =
-      let s = (sound_parts m ok).0 in
-      let one : b.length ≡ length m.middle * width m.middle = sym (length_bits b.length b.bits) ∙ ap length middle ∙ s.long in
-      omega (
-        arith,
-        length_bits a.length a.bits,
-        ap length front,
-        s.front,
-        length_bits d.length d.bits,
-        ap length back,
-        s.back,
-        ap (λ k. m.times * k) one,
-        covered_entries (length m.middle) (end_width m.prefix) (end_width m.suffix) m.times (width m.middle),
-      )
+-- the pattern has every coded bit
+pub length_pattern : (m : Masks) → length (pattern m) ≡ coded_of m
+length_pattern m = by (sound m) refl
+  where
+    by : (b : _) → sound m ≡ b → length (pattern m) ≡ coded_of m
+    by false e = ap length (cond-false _ _ _ e) ∙ length-replicate (coded_of m) true
+    by true e =
+        let f = fits m e in
+        let rows = length m.middle in
+        let w = width m.middle in
+        ap length (cond-true _ _ _ e)
+        ∙ length_laid_out (end_flat m.prefix) m.times (flat m.middle) (rows * (m.steps - covered m)) (end_flat m.suffix)
+        ∙ omega (arith, f.ranged, f.front, f.back, ap (λ k. m.times * k) (flat_long m.middle), entries rows (end_width m.prefix) m.times w m.steps (end_width m.suffix) f.within)
 
-  -- and lie within the coded bits
-  pub strips_fit : a.length + m.times * b.length + d.length ≤ n
-  strips_fit = omega (arith, strips_long, mul-le-mul_left (length m.middle) (sound_parts m ok).1)
+-- a mask lays a block out by tables if it has their suiting and their pattern
+pub lays : (m : Masks) (r : Mask) → suits r ≡ sound m → pattern_of r ≡ pattern m → Lays m r
+lays m r s p = record { coded = ap length p ∙ length_pattern m; suited = s; sent = ap kept p; places = λ j. ap (λ q. numbered q j) p }
 
-  -- with the columns left over they make the pattern
-  pub strips_pattern : laid_out (held a) m.times (held b) (n - (a.length + m.times * b.length + d.length)) (held d) ≡ pattern m
-  strips_pattern =
-      let rows = length m.middle in
-      let within = (sound_parts m ok).1 in
-      let steps : m.steps ≡ covered m + (m.steps - covered m) = omega arith in
-      let left : n - (a.length + m.times * b.length + d.length) ≡ rows * (m.steps - covered m) =
-      omega (arith, strips_long, ap (λ k. rows * k) steps, mul-add rows (covered m) (m.steps - covered m)) in
-      (λ i. laid_out (front i) m.times (middle i) (left i) (back i)) ∙ sym (cond-true (sound m) _ _ ok)
+-- strips that hold the tables of a sound mask, with so many bits left over
+module _ (m : Masks) (ok : sound m ≡ true) (a b d : Strip) (left : ℕ) (front : held a ≡ end_flat m.prefix) (middle : held b ≡ flat m.middle) (back : held d ≡ end_flat m.suffix)
+    (over : left ≡ length m.middle * (m.steps - covered m)) where
+  -- make its pattern
+  pub strips_pattern : laid_out (held a) m.times (held b) left (held d) ≡ pattern m
+  strips_pattern = (λ i. laid_out (front i) m.times (middle i) (over i) (back i)) ∙ sym (cond-true (sound m) _ _ ok)
 
--- a mask lays a block out by tables if it has their coded bits, their suiting and their pattern
-pub lays : (m : Masks) (r : Mask) → r.coded ≡ coded_of m → r.suits ≡ sound m → pattern_of r ≡ pattern m → Lays m r
-lays m r c s p = record { coded = c; suited = s; sent = ap kept p; places = λ j. ap (λ q. numbered q j) p }
+  -- and lie within the range
+  pub strips_small : a.length + m.times * b.length + left + d.length < 2 ^ 64
+  strips_small = omega (arith, length_strips a b d m.times left, ap length strips_pattern, length_pattern m)

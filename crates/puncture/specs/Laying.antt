@@ -1,16 +1,16 @@
 -- What a mask means as a line, and how it lays a block by its tables.
-use Rattle.std.specs.Prelude.{◌≡◌, ℕ}
+use Rattle.std.specs.Prelude.{◌≡◌, ℕ, length}
 use Rattle.line.specs.declared.laying.Line.{Ghosts}
 use Rattle.puncture.specs.Masks.{Masks, sound, coded_of, pattern}
 use Rattle.puncture.specs.Patterns.{kept, numbered}
-use Rattle.puncture.specs.Strips.{pattern_of}
+use Rattle.puncture.specs.Strips.{pattern_of, suits}
 use Rattle.puncture.specs.declared.mask.Mask.{Mask}
 
 abbrev pub mask_line : Ghosts Mask
 mask_line = record {
-  coded = λ l. l.coded;
+  coded = λ l. length (pattern_of l);
   sent = λ l. kept (pattern_of l);
-  suited = λ l. l.suits;
+  suited = λ l. suits l;
   place = λ l j. numbered (pattern_of l) j;
 }
 

@@ -5,11 +5,12 @@ use Rattle.std.proofs.lemmas.Nat.{div_below}
 use Rattle.std.proofs.lemmas.List.{length-append, length-replicate}
 use Rattle.line.specs.Lawful.{Laws}
 use Rattle.puncture.specs.Packing.{length_bits}
-use Rattle.puncture.specs.PatternsLemmas.{kept_append, kept_ones, kept_times, kept_within, length_times, numbered_within, numbered_apart, numbered_filled, numbered_ended, turns_some}
-use Rattle.puncture.specs.Patterns.{kept, times_over}
+use Rattle.puncture.specs.PatternsLemmas.{kept_append, kept_ones, kept_times, kept_within, length_laid_out, numbered_within, numbered_apart, numbered_filled, numbered_ended, turns_some}
+use Rattle.puncture.specs.Patterns.{kept, laid_out, times_over}
 use Rattle.puncture.specs.Laying.{mask_line}
-use Rattle.puncture.specs.Strips.{held, left_over, past_middles, past_prefix, pattern_of}
-use Rattle.puncture.specs.declared.mask.Mask.{Mask}
+use Rattle.puncture.specs.Strips.{held, past_middles, past_prefix, pattern_of}
+use Rattle.puncture.specs.declared.mask.Mask.TheVariants.{Sound}
+use Rattle.puncture.specs.declared.mask.Packed.{Packed}
 use Rattle.puncture.specs.declared.mask.strip.Strip.{Strip}
 
 -- a strip keeps no more than its entries
@@ -17,48 +18,35 @@ pub held_within : (s : Strip) → kept (held s) ≤ s.length
 held_within s = omega (arith, kept_within (held s), length_bits s.length s.bits)
 
 -- all the turns, of k kept bits each, keep no more than the middles have
-pub turns_fit : (l : Mask) (k : ℕ) → k ≡ kept (held l.middle) → l.times * k ≤ l.times * l.middle.length
-turns_fit l k e = mul-le-mul_left l.times (omega (arith, held_within l.middle))
+pub turns_fit : (p : Packed) (k : ℕ) → k ≡ kept (held p.middle) → p.times * k ≤ p.times * p.middle.length
+turns_fit p k e = mul-le-mul_left p.times (omega (arith, held_within p.middle))
 
 -- after the kept bits of the prefix and of the turns before bit j, a whole turn still lies within the range
-pub turn_fits : (l : Mask) (j k : ℕ) → k ≡ kept (held l.middle) → j < l.times * l.middle.length → l.prefix.length + j / l.middle.length * k + l.middle.length < 2 ^ 64
-turn_fits l j k e h =
-    let w = l.middle.length in
-    let i : j / w < l.times = div_below j w l.times (turns_some l.times w j h) h in
-    let less : k ≤ w = omega (arith, held_within l.middle) in
-    omega (arith, mul-le-mul_left (j / w) less, mul-le-mul_right w i, l.fits, l.small)
+pub turn_fits : (p : Packed) (j k : ℕ) → k ≡ kept (held p.middle) → j < p.times * p.middle.length → p.prefix.length + j / p.middle.length * k + p.middle.length < 2 ^ 64
+turn_fits p j k e h =
+    let w = p.middle.length in
+    let i : j / w < p.times = div_below j w p.times (turns_some p.times w j h) h in
+    let less : k ≤ w = omega (arith, held_within p.middle) in
+    omega (arith, mul-le-mul_left (j / w) less, mul-le-mul_right w i, p.small)
 
--- the pattern has every coded bit
-length_pattern : (l : Mask) → length (pattern_of l) ≡ l.coded
-length_pattern l =
-    let p = held l.prefix in
-    let m = times_over l.times (held l.middle) in
-    let o = replicate (left_over l) true in
-    let s = held l.suffix in
-    let f = l.fits in
-    omega (
-      arith,
-      length-append p (m ++ (o ++ s)),
-      length-append m (o ++ s),
-      length-append o s,
-      length_bits l.prefix.length l.prefix.bits,
-      length_times l.times (held l.middle) ∙ ap (λ n. l.times * n) (length_bits l.middle.length l.middle.bits),
-      length-replicate (left_over l) true,
-      length_bits l.suffix.length l.suffix.bits,
-    )
+-- strips laid out have the entries of each
+pub length_strips : (a b d : Strip) (n k : ℕ) → length (laid_out (held a) n (held b) k (held d)) ≡ a.length + n * b.length + k + d.length
+length_strips a b d n k =
+    length_laid_out (held a) n (held b) k (held d)
+    ∙ (λ i. length_bits a.length a.bits i + n * length_bits b.length b.bits i + k + length_bits d.length d.bits i)
 
 -- the pattern keeps what its parts keep, k bits in each turn
-pub kept_pattern : (l : Mask) (k : ℕ) → k ≡ kept (held l.middle) → kept (pattern_of l) ≡ kept (held l.prefix) + l.times * k + left_over l + kept (held l.suffix)
-kept_pattern l k e =
-    let m = held l.middle in
+pub kept_pattern : (p : Packed) (k : ℕ) → k ≡ kept (held p.middle) → kept (pattern_of (Sound p)) ≡ kept (held p.prefix) + p.times * k + p.left + kept (held p.suffix)
+kept_pattern p k e =
+    let m = held p.middle in
     omega (
       arith,
-      kept_append (held l.prefix) (past_prefix l),
-      kept_append (times_over l.times m) (past_middles l),
-      kept_append (replicate (left_over l) true) (held l.suffix),
-      kept_times l.times m,
-      ap (λ n. l.times * n) e,
-      kept_ones (left_over l),
+      kept_append (held p.prefix) (past_prefix p),
+      kept_append (times_over p.times m) (past_middles p),
+      kept_append (replicate p.left true) (held p.suffix),
+      kept_times p.times m,
+      ap (λ n. p.times * n) e,
+      kept_ones p.left,
     )
 
 -- the laws of the mask's line, as of any pattern
@@ -67,5 +55,5 @@ mask_laws = record {
   within = λ l j k t. numbered_within (pattern_of l) j k t;
   apart = λ l i j k t u. numbered_apart (pattern_of l) i j k t u;
   filled = λ l k. numbered_filled (pattern_of l) k;
-  ended = λ l j h. numbered_ended (pattern_of l) j (omega (arith, length_pattern l));
+  ended = λ l j. numbered_ended (pattern_of l) j;
 }

@@ -1,7 +1,9 @@
 -- Puncturing masks: tables of ones and noughts, by rows. A one keeps the bit.
 use Rattle.std.specs.Prelude.{ℕ, zero, suc, ◌+◌, ◌-◌, ◌*◌, min, Bool, true, cond, ◌&&◌, List, [], ◌∷◌, ◌++◌, map, length, replicate, Some, None, Option, ◌==◌, nat_eq, nat_le, slice_index, slice_index_or}
 use Rattle.std.specs.Borrow.{Bor}
+use Rattle.std.specs.List.{list_all}
 use Rattle.puncture.specs.Patterns.{laid_out}
+use Rattle.puncture.specs.declared.mask.tables.Tables.{Tables}
 
 -- entries by rows, 0 or 1 where there is no fault
 abbrev pub Table : Type 0
@@ -28,9 +30,9 @@ abbrev pub lent_end : Option Lent → Option Table
 lent_end None = None
 lent_end (Some t) = Some (lent t)
 
--- the steps and the tables that a mask is made of
-abbrev pub lent_masks : ℕ → Option Lent → Lent → ℕ → Option Lent → Masks
-lent_masks n before t k after = record { steps = n; prefix = lent_end before; middle = lent t; times = k; suffix = lent_end after }
+-- the masks that are lent
+abbrev pub lent_masks : Tables → Masks
+lent_masks m = record { steps = m.steps; prefix = lent_end m.prefix; middle = lent m.middle; times = m.times; suffix = lent_end m.suffix }
 
 -- the columns of a table, by its first row
 abbrev pub width : Table → ℕ
@@ -49,23 +51,17 @@ columns t c (suc n) = column t c ++ columns t (suc c) n
 abbrev pub flat : Table → List Bool
 flat t = columns t 0 (width t)
 
--- entries of 0 and 1
-abbrev pub all_bits : List ℕ → Bool
-all_bits [] = true
-all_bits (x ∷ xs) = nat_le x 1 && all_bits xs
+-- 0 or 1
+abbrev pub is_bit : ℕ → Bool
+is_bit x = nat_le x 1
 
 -- a row of n entries, each 0 or 1
 abbrev pub sound_row : ℕ → List ℕ → Bool
-sound_row n row = length row == n && all_bits row
-
--- every row is such a row
-abbrev pub sound_rows : ℕ → Table → Bool
-sound_rows n [] = true
-sound_rows n (row ∷ t) = sound_row n row && sound_rows n t
+sound_row n row = length row == n && list_all is_bit row
 
 -- a period of 1 to 12 columns, alike in every row
 abbrev pub sound_period : Table → Bool
-sound_period t = (nat_le 1 (width t) && nat_le (width t) 12) && sound_rows (width t) t
+sound_period t = (nat_le 1 (width t) && nat_le (width t) 12) && list_all (sound_row (width t)) t
 
 -- the middle: 1 to 5 rows
 abbrev pub sound_middle : Table → Bool
@@ -95,14 +91,13 @@ abbrev pub coded_of : Masks → ℕ
 coded_of m = min (length m.middle * m.steps) 18446744073709551615
 
 -- tables without a fault, and alike in their rows
-abbrev pub sound_tables : Option Table → Table → Option Table → Bool
-sound_tables before t after = sound_middle t && (sound_end (length t) before && sound_end (length t) after)
+abbrev pub sound_tables : Masks → Bool
+sound_tables m = sound_middle m.middle && (sound_end (length m.middle) m.prefix && sound_end (length m.middle) m.suffix)
 
 -- no fault: sound tables within the steps, and coded bits within the range
 abbrev pub sound : Masks → Bool
 sound m =
-    sound_tables m.prefix m.middle m.suffix
-    && (nat_le (covered m) m.steps && nat_le (length m.middle * m.steps) 18446744073709551615)
+    sound_tables m && (nat_le (covered m) m.steps && nat_le (length m.middle * m.steps) 18446744073709551615)
 
 -- which coded bits are kept, in coded order: every one where there is a fault
 abbrev pub pattern : Masks → List Bool

@@ -1,10 +1,10 @@
 -- Entries packed into the bits of a number: reading one, counting the kept ones, and adding one.
-use Rattle.std.specs.Prelude.{◌≡◌, ℕ, zero, suc, ◌+◌, ◌-◌, ◌*◌, ◌/◌, ◌%◌, ◌^◌, ◌<◌, ◌≤◌, Bool, true, false, List, ◌∷◌, length, take, ◌==◌, bit_and, bit_or, nat_eq, slice_index_or, refl}
-use Rattle.std.proofs.Common.{sym, ap, ap₂, ◌∙◌, inl, inr, div-one, mod-eq_of_lt, add-one, arith, pow_mono}
-use Rattle.std.proofs.Math.Nat.{mod-one}
+use Rattle.std.specs.Prelude.{◌≡◌, ℕ, zero, suc, ◌+◌, ◌-◌, ◌*◌, ◌/◌, ◌%◌, ◌^◌, ◌<◌, ◌≤◌, Bool, true, false, List, [], ◌∷◌, ◌++◌, length, take, ◌==◌, bit_and, bit_or, nat_eq, slice_index_or, refl}
+use Rattle.std.proofs.Common.{sym, ap, ap₂, ◌∙◌, inl, inr, div-one, mod-eq_of_lt, mul_assoc, add-one, arith}
+use Rattle.std.proofs.Math.Nat.{mod-one, pow-suc}
 use Rattle.std.specs.Int.Count.{ones, ones_step}
 use mir.Val.{bool_byte}
-use Rattle.std.proofs.lemmas.Nat.{and_mask, div-mul-add, mod-mul-add, mod-pow-add, one_shl, or_shifted, pow-add, shr-shr}
+use Rattle.std.proofs.lemmas.Nat.{and_mask, div-mul-add, mod-mul-add, mod-pow-add, one_shl, or_shifted, pow_below, pow-add, shr-shr}
 use Rattle.std.proofs.lemmas.Bool.Decides.{eqb_tells}
 use Rattle.puncture.specs.Patterns.{kept}
 use Rattle.puncture.specs.Strips.{bits}
@@ -66,25 +66,35 @@ count_before n v i h o =
     ∙ ap ones (and_mask v i)
     ∙ sym (ap kept (take_bits i n v h) ∙ kept_bits i v)
 
--- a flag is a byte 0 or 1, which is odd where the flag is set
-byte_low : (b : Bool) → (bool_byte b < 2) × ((bool_byte b == 1) ≡ b)
-byte_low true = (omega arith, refl)
-byte_low false = (omega arith, refl)
+-- an entry above n bits, by 2 ^ n
+abbrev above : ℕ → Bool → ℕ
+above n b = bool_byte b * 2 ^ n
 
--- an entry shifted in below the others is a sum
-shifted_in : (n v : ℕ) (b : Bool) → n < 60 → v < 2 ^ n → bit_or ((v * 2) % 2 ^ 64) (bool_byte b) ≡ v * 2 + bool_byte b
+-- which is no more than that
+above_low : (n : ℕ) (b : Bool) → above n b ≤ 2 ^ n
+above_low n true = omega arith
+above_low n false = omega arith
+
+-- an entry shifted in above the others is a sum
+shifted_in : (n v : ℕ) (b : Bool) → n < 60 → v < 2 ^ n → bit_or (above n b % 2 ^ 64) v ≡ above n b + v
 shifted_in n v b h o =
-    let few : 2 ^ n ≤ 2 ^ 60 = pow_mono {j = 60} (omega arith) in
-    ap (λ a. bit_or a (bool_byte b)) (mod-eq_of_lt (omega arith)) ∙ or_shifted v 1 (bool_byte b) (byte_low b).0
+    ap (λ a. bit_or a v) (mod-eq_of_lt (omega (arith, above_low n b, pow_below n 60 h))) ∙ or_shifted (bool_byte b) n v o
 
--- it is the first entry then
-pub entry_first : (n v : ℕ) (b : Bool) → n < 60 → v < 2 ^ n → bits (n + 1) (bit_or ((v * 2) % 2 ^ 64) (bool_byte b)) ≡ b ∷ bits n v
-entry_first n v b h o =
-    let low = byte_low b in
-    ap₂ bits (add-one n) (shifted_in n v b h o)
-    ∙ ap₂ (λ (x y : ℕ). (x == 1) ∷ bits n y) (mod-mul-add v 2 (bool_byte b) low.0) (div-mul-add v 2 (bool_byte b) low.0)
-    ∙ ap (λ k. k ∷ bits n v) low.1
+-- and the last bit
+bits_below : (n v : ℕ) (b : Bool) → v < 2 ^ n → bits (suc n) (above n b + v) ≡ bits n v ++ b ∷ []
+bits_below zero v true h = let none : v ≡ 0 = omega arith in ap (λ a. ((1 + a) % 2 == 1) ∷ []) none
+bits_below zero v false h = let none : v ≡ 0 = omega arith in ap (λ a. ((0 + a) % 2 == 1) ∷ []) none
+bits_below (suc n) v b h =
+    let x = above (suc n) b + v in
+    let double : above (suc n) b ≡ above n b * 2 = ap (λ k. bool_byte b * k) (pow-suc 2 n) ∙ sym (mul_assoc (bool_byte b) (2 ^ n) 2) in
+    let low : x % 2 ≡ v % 2 = omega arith in
+    let high : x / 2 ≡ above n b + v / 2 = omega arith in
+    ap₂ (λ (r y : ℕ). (r == 1) ∷ bits (suc n) y) low high ∙ ap (λ p. (v % 2 == 1) ∷ p) (bits_below n (v / 2) b (omega (arith, pow-suc 2 n)))
+
+-- it is the last entry then
+pub entry_last : (n v : ℕ) (b : Bool) → n < 60 → v < 2 ^ n → bits (n + 1) (bit_or (above n b % 2 ^ 64) v) ≡ bits n v ++ b ∷ []
+entry_last n v b h o = ap₂ bits (add-one n) (shifted_in n v b h o) ∙ bits_below n v b o
 
 -- and no bit lies above the entries
-pub entry_whole : (n v : ℕ) (b : Bool) → n < 60 → v < 2 ^ n → bit_or ((v * 2) % 2 ^ 64) (bool_byte b) < 2 ^ (n + 1)
-entry_whole n v b h o = omega (arith, shifted_in n v b h o, (byte_low b).0, pow-add 2 n 1)
+pub entry_whole : (n v : ℕ) (b : Bool) → n < 60 → v < 2 ^ n → bit_or (above n b % 2 ^ 64) v < 2 ^ (n + 1)
+entry_whole n v b h o = omega (arith, shifted_in n v b h o, above_low n b, pow-add 2 n 1)

@@ -5,7 +5,7 @@ use Rattle.std.proofs.Math.Seq.{take-append-add}
 use Rattle.std.proofs.lemmas.Nat.{div-add-mod', div_below, mod_below}
 use Rattle.std.proofs.lemmas.List.{length-append, length-replicate, get_or_append_left, get_or-append-add, get_or-take, get_or_past, take-take, take-append-le, get_or-replicate, take-replicate}
 use Rattle.std.proofs.lemmas.Bool.{cases_order, cond-true, false≢true}
-use Rattle.puncture.specs.Patterns.{kept, numbered, raised, times_over}
+use Rattle.puncture.specs.Patterns.{kept, laid_out, numbered, raised, times_over}
 
 -- a bit's answer, by whether it is kept and by its number
 abbrev answer : Bool → ℕ → Option (ℕ × Bool)
@@ -37,6 +37,10 @@ kept_within (false ∷ p) = omega (arith, kept_within p)
 pub length_times : (n : ℕ) (p : List Bool) → length (times_over n p) ≡ n * length p
 length_times zero p = omega arith
 length_times (suc n) p = omega (arith, length-append p (times_over n p), length_times n p)
+
+-- a laid out pattern has the bits of its parts
+pub length_laid_out : (a : List Bool) (n : ℕ) (b : List Bool) (k : ℕ) (d : List Bool) → length (laid_out a n b k d) ≡ length a + n * length b + k + length d
+length_laid_out a n b k d = simp (length-append, length_times, length-replicate) (omega arith)
 
 -- before a kept bit there are fewer than all the kept ones
 fewer_before : (p : List Bool) (j : ℕ) → slice_index_or p j false ≡ true → kept (take j p) < kept p

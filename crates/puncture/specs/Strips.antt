@@ -1,6 +1,8 @@
 -- Tables packed into numbers, and the pattern that a mask holds.
-use Rattle.std.specs.Prelude.{ℕ, zero, suc, ◌+◌, ◌-◌, ◌*◌, ◌/◌, ◌%◌, Bool, true, List, [], ◌∷◌, ◌++◌, replicate, ◌==◌}
+use Rattle.std.specs.Prelude.{ℕ, zero, suc, ◌/◌, ◌%◌, Bool, true, false, List, [], ◌∷◌, ◌++◌, replicate, ◌==◌}
 use Rattle.puncture.specs.declared.mask.Mask.{Mask}
+use Rattle.puncture.specs.declared.mask.Mask.TheVariants.{Sound, Faulty}
+use Rattle.puncture.specs.declared.mask.Packed.{Packed}
 use Rattle.puncture.specs.declared.mask.strip.Strip.{Strip}
 use Rattle.puncture.specs.Patterns.{times_over}
 
@@ -13,18 +15,20 @@ bits (suc n) v = (v % 2 == 1) ∷ bits n (v / 2)
 abbrev pub held : Strip → List Bool
 held s = bits s.length s.bits
 
--- the bits that prefix, middles and suffix leave over
-abbrev pub left_over : Mask → ℕ
-left_over l = l.coded - (l.prefix.length + l.times * l.middle.length + l.suffix.length)
-
 -- what follows the middles: the bits left over, and the suffix
-abbrev pub past_middles : Mask → List Bool
-past_middles l = replicate (left_over l) true ++ held l.suffix
+abbrev pub past_middles : Packed → List Bool
+past_middles p = replicate p.left true ++ held p.suffix
 
 -- what follows the prefix
-abbrev pub past_prefix : Mask → List Bool
-past_prefix l = times_over l.times (held l.middle) ++ past_middles l
+abbrev pub past_prefix : Packed → List Bool
+past_prefix p = times_over p.times (held p.middle) ++ past_middles p
 
--- which coded bits a mask keeps, in coded order
+-- which coded bits a mask keeps, in coded order: every one where its tables have a fault
 abbrev pub pattern_of : Mask → List Bool
-pattern_of l = held l.prefix ++ past_prefix l
+pattern_of (Sound p) = held p.prefix ++ past_prefix p
+pattern_of (Faulty n) = replicate n true
+
+-- whether its tables have no fault
+abbrev pub suits : Mask → Bool
+suits (Sound p) = true
+suits (Faulty n) = false

@@ -1,18 +1,19 @@
 // The mask as a line: the place of a coded bit is found without a walk over the tables.
-ghost use Rattle.std.specs.Prelude.{◌≡◌, ◌+◌, ◌*◌, ◌≤◌};
+ghost use Rattle.std.specs.Prelude.{◌≡◌, ◌+◌, ◌*◌, ◌≤◌, length};
 ghost use Rattle.puncture.specs.Patterns.{kept, numbered, raised};
-ghost use Rattle.puncture.specs.Strips.{left_over, past_middles, past_prefix, pattern_of};
+ghost use Rattle.puncture.specs.Strips.{past_middles, past_prefix, pattern_of, suits};
 ghost use Rattle.puncture.specs.Masking.{mask_laws};
+ghost use Rattle.puncture.specs.declared.mask.Mask.TheVariants.{Sound};
 
-use super::Mask;
+use super::{Mask, Packed};
 use line::laying::Line;
 
 impl Line for Mask {
-    ghost coded = { λ l. l.coded };
+    ghost coded = { λ l. length (pattern_of l) };
 
     ghost sent = { λ l. kept (pattern_of l) };
 
-    ghost suited = { λ l. l.suits };
+    ghost suited = { λ l. suits l };
 
     ghost place = { λ l j. numbered (pattern_of l) j };
 
@@ -25,28 +26,56 @@ impl Line for Mask {
     ghost ended = { mask_laws.ended };
 
     fn coded_bits(&self) -> usize {
-        self.coded
+        match self {
+            Mask::Sound(packed) => packed.coded_bits(),
+            Mask::Faulty { coded } => *coded,
+        }
     }
 
     fn burst_bits(&self) -> usize {
-        self.prefix.kept() + self.times * self.middle.kept() + self.left_over() + self.suffix.kept()
+        match self {
+            Mask::Sound(packed) => packed.burst_bits(),
+            Mask::Faulty { coded } => *coded,
+        }
     }
 
     fn suits(&self) -> bool {
-        self.suits
+        matches!(self, Mask::Sound(_))
     }
 
     fn place_of(&self, j: usize) -> Option<(usize, bool)> {
+        match self {
+            Mask::Sound(packed) => packed.place_of(j),
+            Mask::Faulty { coded } if j < *coded => Some((j, false)),
+            Mask::Faulty { .. } => None,
+        }
+    }
+}
+
+impl Packed {
+    fn coded_bits(&self) -> usize
+        ensures { result ≡ length (pattern_of (Sound self.now)) }
+    {
+        self.prefix.length + self.times * self.middle.length + self.left + self.suffix.length
+    }
+
+    fn burst_bits(&self) -> usize
+        ensures { result ≡ kept (pattern_of (Sound self.now)) }
+    {
+        self.prefix.kept() + self.times * self.middle.kept() + self.left + self.suffix.kept()
+    }
+
+    fn place_of(&self, j: usize) -> Option<(usize, bool)>
+        ensures { result ≡ numbered (pattern_of (Sound self.now)) j }
+    {
         if j < self.prefix.length {
             self.prefix.number_of(j, 0)
         } else {
             self.place_past_prefix(j - self.prefix.length, self.prefix.kept())
         }
     }
-}
 
-// Places are counted from the end of the part before; so many bits of it and before it are kept.
-impl Mask {
+    // Places are counted from the end of the part before; so many bits of it and before it are kept.
     fn place_past_prefix(&self, j: usize, before: usize) -> Option<(usize, bool)>
         requires { before ≤ self.now.prefix.length }
         ensures { result ≡ raised before (numbered (past_prefix self.now) j) }
@@ -65,17 +94,10 @@ impl Mask {
         requires { before ≤ self.now.prefix.length + self.now.times * self.now.middle.length }
         ensures { result ≡ raised before (numbered (past_middles self.now) j) }
     {
-        let left = self.left_over();
-        if j < left {
+        if j < self.left {
             Some((before + j, false))
         } else {
-            self.suffix.number_of(j - left, before + left)
+            self.suffix.number_of(j - self.left, before + self.left)
         }
-    }
-
-    fn left_over(&self) -> usize
-        ensures { result ≡ left_over self.now }
-    {
-        self.coded - (self.prefix.length + self.times * self.middle.length + self.suffix.length)
     }
 }

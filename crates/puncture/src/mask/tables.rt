@@ -1,90 +1,91 @@
-// Which tables make a mask: what is asked of their rows, columns and entries.
-ghost use Rattle.std.specs.Prelude.{◌≡◌, ◌&&◌, nat_le};
-ghost use Rattle.puncture.specs.Masks.{lent, lent_end, width, end_width, all_bits, sound_row, sound_rows, sound_period, sound_middle, sound_end, sound_tables};
+// The tables that a mask is made of, and what is asked of their rows, columns and entries.
+ghost use Rattle.std.specs.Prelude.{◌≡◌, ◌*◌, ◌^◌, ◌<◌, true, ◌&&◌, length, nat_le, ◌+◌};
+ghost use Rattle.std.specs.List.{list_all};
+ghost use Rattle.puncture.specs.Masks.{lent, lent_end, lent_masks, width, end_width, covered, is_bit, sound_row, sound_period, sound_end, sound_tables, sound};
 
-pub(crate) fn are_sound(
-    prefix: Option<&[&[u8]]>,
-    middle: &[&[u8]],
-    suffix: Option<&[&[u8]]>,
-) -> bool
-    ensures { result ≡ sound_tables (lent_end prefix.entry) (lent middle.entry) (lent_end suffix.entry) }
-{
-    is_middle(middle) && are_ends(prefix, suffix, middle.len())
+// By rows, of bytes 0 and 1.
+pub type Table<'a> = &'a [&'a [u8]];
+
+// The prefix is applied once, the middle a number of times, the suffix at the very end of the steps.
+#[derive(Clone, Copy)]
+pub struct Tables<'a> {
+    pub steps: usize,
+    pub prefix: Option<Table<'a>>,
+    pub middle: Table<'a>,
+    pub times: usize,
+    pub suffix: Option<Table<'a>>,
 }
 
-fn is_middle(table: &[&[u8]]) -> bool
-    ensures { result ≡ sound_middle (lent table.entry) }
-{
-    is_between(1, table.len(), 5) && has_period(table)
-}
+impl Tables<'_> {
+    pub(crate) fn are_sound(&self) -> bool
+        ensures { result ≡ sound (lent_masks self.now) }
+    {
+        self.are_alike() && self.fit()
+    }
 
-fn are_ends(prefix: Option<&[&[u8]]>, suffix: Option<&[&[u8]]>, rows: usize) -> bool
-    ensures { result ≡ (sound_end rows (lent_end prefix.entry) && sound_end rows (lent_end suffix.entry)) }
-{
-    is_end(prefix, rows) && is_end(suffix, rows)
-}
+    fn are_alike(&self) -> bool
+        ensures { result ≡ sound_tables (lent_masks self.now) }
+    {
+        let rows = self.middle.len();
+        (1..=5).contains(&rows)
+            && has_period(self.middle)
+            && is_end(self.prefix, rows)
+            && is_end(self.suffix, rows)
+    }
 
-fn is_end(table: Option<&[&[u8]]>, rows: usize) -> bool
-    ensures { result ≡ sound_end rows (lent_end table.entry) }
-{
-    match table {
-        Some(table) => table.len() == rows && has_period(table),
-        None => true,
+    // Whether the steps hold them, and the range the coded bits.
+    fn fit(&self) -> bool
+        requires { sound_tables (lent_masks self.now) ≡ true }
+        ensures { result ≡ (nat_le (covered (lent_masks self.now)) self.now.steps && nat_le (length (lent self.now.middle) * self.now.steps) 18446744073709551615) }
+    {
+        let ends = end_width(self.prefix) + end_width(self.suffix);
+        covers(self.steps, ends, self.times, width(self.middle))
+            && self.steps <= usize::MAX / self.middle.len()
+    }
+
+    // The columns of prefix, suffix and middles together.
+    pub(crate) fn covered(&self) -> usize
+        requires { covered (lent_masks self.now) < 2 ^ 64 }
+        ensures { result ≡ covered (lent_masks self.now) }
+    {
+        end_width(self.prefix) + end_width(self.suffix) + self.times * width(self.middle)
     }
 }
 
-fn has_period(table: &[&[u8]]) -> bool
+fn covers(steps: usize, ends: usize, times: usize, period: usize) -> bool
+    requires { 0 < period }
+    ensures { result ≡ nat_le (ends + times * period) steps }
+{
+    ends <= steps && times <= (steps - ends) / period
+}
+
+fn is_end(table: Option<Table>, rows: usize) -> bool
+    ensures { result ≡ sound_end rows (lent_end table.entry) }
+{
+    table.is_none_or(|table| table.len() == rows && has_period(table))
+}
+
+fn has_period(table: Table) -> bool
     ensures { result ≡ sound_period (lent table.entry) }
 {
     let columns = width(table);
-    is_between(1, columns, 12) && are_rows_of(table, columns)
-}
-
-fn are_rows_of(table: &[&[u8]], columns: usize) -> bool
-    ensures { result ≡ sound_rows columns (lent table.entry) }
-{
-    for row in table {
-        if !is_row_of(row, columns) {
-            return false;
-        }
-    }
-    true
+    (1..=12).contains(&columns) && table.iter().all(|row| is_row_of(row, columns))
 }
 
 fn is_row_of(row: &[u8], columns: usize) -> bool
     ensures { result ≡ sound_row columns row.now }
 {
-    row.len() == columns && are_bits(row)
+    row.len() == columns && row.iter().all(|bit| *bit <= 1)
 }
 
-fn are_bits(row: &[u8]) -> bool
-    ensures { result ≡ all_bits row.now }
-{
-    for bit in row {
-        if *bit > 1 {
-            return false;
-        }
-    }
-    true
-}
-
-fn is_between(low: usize, n: usize, high: usize) -> bool
-    ensures { result ≡ (nat_le low n && nat_le n high) }
-{
-    low <= n && n <= high
-}
-
-pub(crate) fn end_width(table: Option<&[&[u8]]>) -> usize
+fn end_width(table: Option<Table>) -> usize
     ensures { result ≡ end_width (lent_end table.entry) }
 {
-    match table {
-        Some(table) => width(table),
-        None => 0,
-    }
+    table.map_or(0, width)
 }
 
-pub(crate) fn width(table: &[&[u8]]) -> usize
+pub(crate) fn width(table: Table) -> usize
     ensures { result ≡ width (lent table.entry) }
 {
-    if table.is_empty() { 0 } else { table[0].len() }
+    table.first().map_or(0, |row| row.len())
 }

@@ -1,46 +1,37 @@
-use Rattle.std.proofs.Common.{◌≡◌, suc, ◌-◌, ◌*◌, ◌≤◌, ◌++◌, map, length, ap, ◌∙◌, mul-le-mul_right, arith}
-use lib.ListN.{length-map}
+use Rattle.std.proofs.Common.{◌≡◌, ◌+◌, ◌-◌, ◌++◌, map, length, sym, ap, ◌∙◌, arith}
+use Rattle.std.proofs.lemmas.List.{append_assoc, append-nil, length-append, length-map}
 use Rattle.puncture.specs.Packing.{length_bits}
-use Rattle.puncture.proofs.Tables.{length_columns}
+use Rattle.puncture.proofs.Tables.{columns_from}
 use Rattle.puncture.proofs.mask.strip.Strip.packed.Goals as goal
 use Rattle.puncture.specs.Masks.{column, columns, width}
-use Rattle.puncture.specs.Strips.{bits}
+use Rattle.puncture.specs.Strips.{held}
 
 pub loop-c-init : goal.loop-c-init
 loop-c-init c =
     let t = map (λ x. x.now) c.args.table.now in
-    let none : 0 ≡ width t - c.width-c.result = omega arith in
-    ap (λ n. bits n c.empty-strip.result.bits) c.empty-strip.ensures ∙ ap (columns t c.width-c.result) none
+    let all : width t - 0 ≡ width t = omega arith in
+    ap (λ p. p ++ columns t 0 (width t - 0)) c.empty-strip.ensures ∙ ap (columns t 0) all
 
 pub with_column-strip-requires : goal.with_column-strip-requires
 with_column-strip-requires c =
     let t = map (λ x. x.now) c.args.table.now in
-    let s = c.loop-c.strip in
-    let n = width t - c.loop-c.c in
-    let rows = length t in
-    let one_more : suc n * rows ≤ width t * rows = mul-le-mul_right rows (omega arith) in
-    omega (
-      arith,
-      ap length c.loop-c.invariant,
-      length_columns t c.loop-c.c n,
-      length_columns t 0 (width t),
-      length-map c.args.table.now (λ x. x.now),
-      length_bits s.length s.bits,
-    )
+    let e = c.loop-c.invariant in
+    let more = columns_from t c.loop-c.c (width t) (omega arith) in
+    omega (arith, simp (length-append, length-map, length_bits) at (ap length (ap (λ p. held c.loop-c.strip ++ p) (sym more) ∙ e)))
 
 pub loop-c-preserved : goal.loop-c-preserved
 loop-c-preserved c =
     let t = map (λ x. x.now) c.args.table.now in
-    let k = c.loop-c.c - 1 in
-    let on : c.loop-c.c ≡ suc k = omega arith in
-    let more : suc (width t - c.loop-c.c) ≡ width t - k = omega arith in
-    c.with_column-strip.ensures
-    ∙ ap (λ p. column t k ++ p) (c.loop-c.invariant ∙ ap (λ n. columns t n (width t - c.loop-c.c)) on)
-    ∙ ap (columns t k) more
+    let i = c.loop-c.c in
+    let rest = columns t (i + 1) (width t - (i + 1)) in
+    ap (λ p. p ++ rest) c.with_column-strip.ensures
+    ∙ append_assoc (held c.loop-c.strip) (column t i) rest
+    ∙ ap (λ p. held c.loop-c.strip ++ p) (sym (columns_from t i (width t) (omega arith)))
+    ∙ c.loop-c.invariant
 
 pub returns : goal.returns
 returns c =
     let t = map (λ x. x.now) c.args.table.now in
-    let none : c.loop-c.c ≡ 0 = omega arith in
-    let all : width t - 0 ≡ width t = omega arith in
-    c.loop-c.invariant ∙ ap (λ n. columns t n (width t - n)) none ∙ ap (columns t 0) all
+    let i = c.loop-c.c in
+    let none : width t - i ≡ 0 = omega arith in
+    sym (append-nil (held c.loop-c.strip)) ∙ ap (λ n. held c.loop-c.strip ++ columns t i n) (sym none) ∙ c.loop-c.invariant

@@ -2,12 +2,12 @@ use Rattle.std.proofs.Common.{◌+◌, ◌-◌, ◌*◌, ◌/◌, ◌%◌, sym, 
 use Rattle.puncture.specs.Masking.{turn_fits, turns_fit}
 use Rattle.puncture.specs.Packing.{length_bits}
 use Rattle.puncture.specs.PatternsLemmas.{numbered_in_turns, numbered_past_turns, raised_twice}
-use Rattle.puncture.proofs.mask.Mask.place_past_prefix.Goals as goal
+use Rattle.puncture.proofs.mask.Packed.place_past_prefix.Goals as goal
 use Rattle.puncture.specs.Patterns.{kept, numbered, raised}
 use Rattle.puncture.specs.Strips.{held, past_middles}
 
 pub overflow_mul-self : goal.overflow_mul-self
-overflow_mul-self c = omega (arith, c.args.self.now.fits, c.args.self.now.small)
+overflow_mul-self c = omega (arith, c.args.self.now.small)
 
 pub overflow_mul-j : goal.overflow_mul-j
 overflow_mul-j c = omega (arith, turn_fits c.args.self.now c.args.j c.kept-kept.result c.kept-kept.ensures c.if-j-self.true)
@@ -19,10 +19,10 @@ pub number_of-requires : goal.number_of-requires
 number_of-requires c = omega (arith, turn_fits c.args.self.now c.args.j c.kept-kept.result c.kept-kept.ensures c.if-j-self.true)
 
 pub overflow_mul-self-else-j-self-2 : goal.overflow_mul-self-else-j-self-2
-overflow_mul-self-else-j-self-2 c = let l = c.args.self.now in omega (arith, l.fits, l.small, turns_fit l c.kept-kept.result c.kept-kept.ensures)
+overflow_mul-self-else-j-self-2 c = let l = c.args.self.now in omega (arith, l.small, turns_fit l c.kept-kept.result c.kept-kept.ensures)
 
 pub overflow_add-before-else-j-self : goal.overflow_add-before-else-j-self
-overflow_add-before-else-j-self c = let l = c.args.self.now in omega (arith, l.fits, l.small, turns_fit l c.kept-kept.result c.kept-kept.ensures)
+overflow_add-before-else-j-self c = let l = c.args.self.now in omega (arith, l.small, turns_fit l c.kept-kept.result c.kept-kept.ensures)
 
 pub place_past_middles-requires : goal.place_past_middles-requires
 place_past_middles-requires c = omega (arith, turns_fit c.args.self.now c.kept-kept.result c.kept-kept.ensures)
