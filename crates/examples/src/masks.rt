@@ -1,19 +1,14 @@
 // Puncturing masks: which bits they keep, and which faults make one keep every bit.
 use line::laying::Line;
 use puncture::mask::Mask;
+use puncture::mask::tables::Tables;
 use std::process::Abort;
 use std::test::*;
 
-type Table = &'static [&'static [u8]];
-
-// What a mask is made of, its tables by rows, and a figure for each coded bit: 1 where it is kept.
+// What a mask is made of, and a figure for each coded bit: 1 where it is kept.
 #[derive(Clone, Copy)]
 struct Case {
-    steps: usize,
-    prefix: Option<Table>,
-    middle: Table,
-    times: usize,
-    suffix: Option<Table>,
+    tables: Tables<'static>,
     kept: &'static str,
 }
 
@@ -40,13 +35,7 @@ fn keeps(mask: &Mask, kept: &str) -> bool {
 // Each mask suits as told, and keeps its bits.
 fn each_keeps(rt: &impl Abort, cases: &[Case], suits: bool) -> Result<(), Fail> {
     for case in cases {
-        let mask = Mask::new(
-            case.steps,
-            case.prefix,
-            case.middle,
-            case.times,
-            case.suffix,
-        );
+        let mask = Mask::new(&case.tables);
         assert_eq!(rt; mask.suits(), suits);
         assert!(rt; keeps(&mask, case.kept));
     }
@@ -56,62 +45,76 @@ fn each_keeps(rt: &impl Abort, cases: &[Case], suits: bool) -> Result<(), Fail> 
 const SOUND: [Case; 7] = [
     // by columns 10, 01, 01, two left over, 01
     Case {
-        steps: 6,
-        prefix: Some(&[&[1], &[0]]),
-        middle: &[&[0], &[1]],
-        times: 2,
-        suffix: Some(&[&[0], &[1]]),
+        tables: Tables {
+            steps: 6,
+            prefix: Some(&[&[1], &[0]]),
+            middle: &[&[0], &[1]],
+            times: 2,
+            suffix: Some(&[&[0], &[1]]),
+        },
         kept: "100101111101",
     },
     // by columns 10, 01, 10, 01, one left over
     Case {
-        steps: 5,
-        prefix: None,
-        middle: &[&[1, 0], &[0, 1]],
-        times: 2,
-        suffix: None,
+        tables: Tables {
+            steps: 5,
+            prefix: None,
+            middle: &[&[1, 0], &[0, 1]],
+            times: 2,
+            suffix: None,
+        },
         kept: "1001100111",
     },
     // a middle applied no times
     Case {
-        steps: 3,
-        prefix: Some(&[&[1], &[0]]),
-        middle: &[&[0], &[0]],
-        times: 0,
-        suffix: None,
+        tables: Tables {
+            steps: 3,
+            prefix: Some(&[&[1], &[0]]),
+            middle: &[&[0], &[0]],
+            times: 0,
+            suffix: None,
+        },
         kept: "101111",
     },
     // tables that fill the steps
     Case {
-        steps: 4,
-        prefix: Some(&[&[0]]),
-        middle: &[&[1]],
-        times: 2,
-        suffix: Some(&[&[0]]),
+        tables: Tables {
+            steps: 4,
+            prefix: Some(&[&[0]]),
+            middle: &[&[1]],
+            times: 2,
+            suffix: Some(&[&[0]]),
+        },
         kept: "0110",
     },
     Case {
-        steps: 2,
-        prefix: None,
-        middle: &[&[1], &[0], &[0], &[0], &[1]],
-        times: 2,
-        suffix: None,
+        tables: Tables {
+            steps: 2,
+            prefix: None,
+            middle: &[&[1], &[0], &[0], &[0], &[1]],
+            times: 2,
+            suffix: None,
+        },
         kept: "1000110001",
     },
     Case {
-        steps: 25,
-        prefix: None,
-        middle: &[&[0, 0, 0, 0, 0, 0, 0, 0, 0, 0, 0, 1]],
-        times: 2,
-        suffix: None,
+        tables: Tables {
+            steps: 25,
+            prefix: None,
+            middle: &[&[0, 0, 0, 0, 0, 0, 0, 0, 0, 0, 0, 1]],
+            times: 2,
+            suffix: None,
+        },
         kept: "0000000000010000000000011",
     },
     Case {
-        steps: 0,
-        prefix: None,
-        middle: &[&[1]],
-        times: 0,
-        suffix: None,
+        tables: Tables {
+            steps: 0,
+            prefix: None,
+            middle: &[&[1]],
+            times: 0,
+            suffix: None,
+        },
         kept: "",
     },
 ];
@@ -121,36 +124,50 @@ fn columns_left_over_lie_before_the_suffix(rt: HostRuntime) -> Result<(), Fail> 
     each_keeps(&rt, &SOUND, true)
 }
 
-const FAULTY: Case = Case {
+const FAULTY: Tables<'static> = Tables {
     steps: 4,
     prefix: None,
     middle: &[&[1], &[0]],
     times: 5,
     suffix: None,
-    kept: "11111111",
 };
+
+// Two rows over four steps, kept whole.
+const WHOLE: &str = "11111111";
 
 const ENTRIES: [Case; 4] = [
     Case {
-        middle: &[&[1, 2], &[1, 1]],
-        times: 2,
-        ..FAULTY
+        tables: Tables {
+            middle: &[&[1, 2], &[1, 1]],
+            times: 2,
+            ..FAULTY
+        },
+        kept: WHOLE,
     },
     Case {
-        prefix: Some(&[&[255], &[1]]),
-        times: 2,
-        ..FAULTY
+        tables: Tables {
+            prefix: Some(&[&[255], &[1]]),
+            times: 2,
+            ..FAULTY
+        },
+        kept: WHOLE,
     },
     Case {
-        times: 2,
-        suffix: Some(&[&[1], &[3]]),
-        ..FAULTY
+        tables: Tables {
+            times: 2,
+            suffix: Some(&[&[1], &[3]]),
+            ..FAULTY
+        },
+        kept: WHOLE,
     },
     // a fault tells where the middle is applied no times
     Case {
-        middle: &[&[0, 2], &[1, 1]],
-        times: 0,
-        ..FAULTY
+        tables: Tables {
+            middle: &[&[0, 2], &[1, 1]],
+            times: 0,
+            ..FAULTY
+        },
+        kept: WHOLE,
     },
 ];
 
@@ -162,48 +179,70 @@ fn entries_are_ones_and_noughts(rt: HostRuntime) -> Result<(), Fail> {
 const ROWS: [Case; 8] = [
     // ragged rows
     Case {
-        middle: &[&[1, 0], &[1]],
-        times: 1,
-        ..FAULTY
+        tables: Tables {
+            middle: &[&[1, 0], &[1]],
+            times: 1,
+            ..FAULTY
+        },
+        kept: WHOLE,
     },
     Case {
-        prefix: Some(&[&[1, 0], &[1]]),
-        times: 1,
-        ..FAULTY
+        tables: Tables {
+            prefix: Some(&[&[1, 0], &[1]]),
+            times: 1,
+            ..FAULTY
+        },
+        kept: WHOLE,
     },
     Case {
-        times: 1,
-        suffix: Some(&[&[1], &[1, 0]]),
-        ..FAULTY
+        tables: Tables {
+            times: 1,
+            suffix: Some(&[&[1], &[1, 0]]),
+            ..FAULTY
+        },
+        kept: WHOLE,
     },
     // other rows than the middle's
     Case {
-        prefix: Some(&[&[1]]),
-        times: 1,
-        ..FAULTY
+        tables: Tables {
+            prefix: Some(&[&[1]]),
+            times: 1,
+            ..FAULTY
+        },
+        kept: WHOLE,
     },
     Case {
-        prefix: Some(&[&[1], &[1], &[1]]),
-        times: 1,
-        ..FAULTY
+        tables: Tables {
+            prefix: Some(&[&[1], &[1], &[1]]),
+            times: 1,
+            ..FAULTY
+        },
+        kept: WHOLE,
     },
     Case {
-        times: 1,
-        suffix: Some(&[&[1]]),
-        ..FAULTY
+        tables: Tables {
+            times: 1,
+            suffix: Some(&[&[1]]),
+            ..FAULTY
+        },
+        kept: WHOLE,
     },
     // no rows, and six
     Case {
-        middle: &[],
-        times: 0,
+        tables: Tables {
+            middle: &[],
+            times: 0,
+            ..FAULTY
+        },
         kept: "",
-        ..FAULTY
     },
     Case {
-        middle: &[&[1], &[0], &[0], &[0], &[1], &[1]],
-        times: 1,
+        tables: Tables {
+            middle: &[&[1], &[0], &[0], &[0], &[1], &[1]],
+            times: 1,
+            ..FAULTY
+        },
         kept: "111111111111111111111111",
-        ..FAULTY
     },
 ];
 
@@ -214,29 +253,39 @@ fn tables_have_one_to_five_rows_alike(rt: HostRuntime) -> Result<(), Fail> {
 
 const PERIODS: [Case; 4] = [
     Case {
-        middle: &[&[], &[]],
-        times: 1,
-        ..FAULTY
+        tables: Tables {
+            middle: &[&[], &[]],
+            times: 1,
+            ..FAULTY
+        },
+        kept: WHOLE,
     },
     Case {
-        middle: &[&[], &[]],
-        times: 0,
-        ..FAULTY
+        tables: Tables {
+            middle: &[&[], &[]],
+            times: 0,
+            ..FAULTY
+        },
+        kept: WHOLE,
     },
     Case {
-        steps: 26,
-        middle: &[&[0, 0, 0, 0, 0, 0, 0, 0, 0, 0, 0, 0, 1]],
-        times: 2,
+        tables: Tables {
+            steps: 26,
+            middle: &[&[0, 0, 0, 0, 0, 0, 0, 0, 0, 0, 0, 0, 1]],
+            times: 2,
+            ..FAULTY
+        },
         kept: "11111111111111111111111111",
-        ..FAULTY
     },
     Case {
-        steps: 26,
-        middle: &[&[1]],
-        times: 2,
-        suffix: Some(&[&[0, 0, 0, 0, 0, 0, 0, 0, 0, 0, 0, 0, 1]]),
+        tables: Tables {
+            steps: 26,
+            middle: &[&[1]],
+            times: 2,
+            suffix: Some(&[&[0, 0, 0, 0, 0, 0, 0, 0, 0, 0, 0, 0, 1]]),
+            ..FAULTY
+        },
         kept: "11111111111111111111111111",
-        ..FAULTY
     },
 ];
 
@@ -246,21 +295,33 @@ fn a_period_is_of_1_to_12_columns(rt: HostRuntime) -> Result<(), Fail> {
 }
 
 const LENGTHS: [Case; 4] = [
-    FAULTY,
     Case {
-        prefix: Some(&[&[1], &[0]]),
-        times: 3,
-        suffix: Some(&[&[1], &[0]]),
-        ..FAULTY
+        tables: FAULTY,
+        kept: WHOLE,
     },
     Case {
-        middle: &[&[1, 0, 1, 0, 1], &[1, 0, 1, 0, 1]],
-        times: 1,
-        ..FAULTY
+        tables: Tables {
+            prefix: Some(&[&[1], &[0]]),
+            times: 3,
+            suffix: Some(&[&[1], &[0]]),
+            ..FAULTY
+        },
+        kept: WHOLE,
     },
     Case {
-        times: 18_446_744_073_709_551_615,
-        ..FAULTY
+        tables: Tables {
+            middle: &[&[1, 0, 1, 0, 1], &[1, 0, 1, 0, 1]],
+            times: 1,
+            ..FAULTY
+        },
+        kept: WHOLE,
+    },
+    Case {
+        tables: Tables {
+            times: 18_446_744_073_709_551_615,
+            ..FAULTY
+        },
+        kept: WHOLE,
     },
 ];
 
