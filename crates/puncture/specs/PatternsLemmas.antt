@@ -1,10 +1,11 @@
 -- Patterns of kept bits: how many they keep, and how the kept ones are numbered.
 use Rattle.std.specs.Prelude.{◌≡◌, ℕ, zero, suc, ◌+◌, ◌-◌, ◌*◌, ◌/◌, ◌%◌, ◌<◌, ◌≤◌, Bool, true, false, cond, List, [], ◌∷◌, ◌++◌, length, take, replicate, Some, None, Option, slice_index_or, refl}
-use Rattle.std.proofs.Common.{sym, ap, ap₂, ◌∙◌, inl, inr, mul-zero, arith, rules}
+use Rattle.std.proofs.Common.{sym, ap, ap₂, ◌∙◌, inl, inr, ltb, mul-zero, arith, rules}
 use Rattle.std.proofs.Math.Seq.{take-append-add}
 use Rattle.std.proofs.lemmas.Nat.{div-add-mod', div_below, mod_below}
 use Rattle.std.proofs.lemmas.List.{length-append, length-replicate, get_or_append_left, get_or-append-add, get_or-take, get_or_past, take-take, take-append-le, get_or-replicate, take-replicate}
-use Rattle.std.proofs.lemmas.Bool.{cases_order, cond-true, false≢true}
+use Rattle.std.proofs.lemmas.Bool.{cases_lt, cases_order, cond-true, false≢true, le-ltb, lt-ltb}
+use Rattle.std.specs.Bool.{then_some}
 use Rattle.puncture.specs.Patterns.{kept, laid_out, numbered, raised, times_over}
 
 -- a bit's answer, by whether it is kept and by its number
@@ -121,6 +122,13 @@ numbered_right p q j =
 pub numbered_ones : (n j : ℕ) → j < n → numbered (replicate n true) j ≡ Some (j, false)
 numbered_ones n j h =
     ap₂ answer (get_or-replicate n j true false h) (ap kept (take-replicate j n true (omega arith)) ∙ kept_ones j)
+
+-- and that is all of them
+pub numbered_whole : (n j : ℕ) → numbered (replicate n true) j ≡ then_some (ltb j n) (j, false)
+numbered_whole n j = elim (cases_lt j n) [
+  | inl h ↦ numbered_ones n j h ∙ sym (ap (λ b. then_some b (j, false)) (lt-ltb j n h))
+  | inr h ↦ numbered_ended (replicate n true) j (omega (arith, length-replicate n true)) ∙ sym (ap (λ b. then_some b (j, false)) (le-ltb j n h))
+]
 
 -- kept bits before kept bits
 pub raised_twice : (m n : ℕ) (o : Option (ℕ × Bool)) → raised m (raised n o) ≡ raised (m + n) o

@@ -46,8 +46,7 @@ impl Line for Mask {
     fn place_of(&self, j: usize) -> Option<(usize, bool)> {
         match self {
             Mask::Sound(packed) => packed.place_of(j),
-            Mask::Faulty { coded } if j < *coded => Some((j, false)),
-            Mask::Faulty { .. } => None,
+            Mask::Faulty { coded } => (j < *coded).then_some((j, false)),
         }
     }
 }

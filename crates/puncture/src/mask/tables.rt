@@ -40,7 +40,7 @@ impl Tables<'_> {
     {
         let ends = end_width(self.prefix) + end_width(self.suffix);
         covers(self.steps, ends, self.times, width(self.middle))
-            && self.steps <= usize::MAX / self.middle.len()
+            && self.middle.len().checked_mul(self.steps).is_some()
     }
 
     // The columns of prefix, suffix and middles together.
@@ -53,10 +53,12 @@ impl Tables<'_> {
 }
 
 fn covers(steps: usize, ends: usize, times: usize, period: usize) -> bool
-    requires { 0 < period }
     ensures { result ≡ nat_le (ends + times * period) steps }
 {
-    ends <= steps && times <= (steps - ends) / period
+    ends <= steps
+        && times
+            .checked_mul(period)
+            .is_some_and(|middles| middles <= steps - ends)
 }
 
 fn is_end(table: Option<Table>, rows: usize) -> bool
