@@ -1,8 +1,7 @@
 -- What a mask holds: the length of its pattern, and the laws of its line.
-use Rattle.std.specs.Prelude.{◌≡◌, ℕ, ◌+◌, ◌*◌, ◌/◌, ◌^◌, ◌<◌, ◌≤◌, true, ◌++◌, length, replicate}
+use Rattle.std.specs.Prelude.{◌≡◌, ℕ, ◌+◌, ◌*◌, ◌/◌, ◌^◌, ◌<◌, ◌≤◌, true, length, replicate}
 use Rattle.std.proofs.Common.{ap, ◌∙◌, mul-le-mul_left, mul-le-mul_right, arith}
 use Rattle.std.proofs.lemmas.Nat.{div_below}
-use Rattle.std.proofs.lemmas.List.{length-append, length-replicate}
 use Rattle.line.specs.Lawful.{Laws}
 use Rattle.puncture.specs.Packing.{length_bits}
 use Rattle.puncture.specs.PatternsLemmas.{kept_append, kept_ones, kept_times, kept_within, length_laid_out, numbered_within, numbered_apart, numbered_filled, numbered_ended, turns_some}

@@ -4,6 +4,7 @@ ghost use Rattle.std.specs.Prelude.{◌^◌, ◌<◌, ◌≤◌};
 mod packing;
 mod reading;
 
+// Packed bits: the kept entries before one are counted in the word, in constant time and with no heap.
 #[derive(Clone, Copy)]
 pub struct Strip {
     pub(super) length: usize,

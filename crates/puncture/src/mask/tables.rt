@@ -20,7 +20,7 @@ impl Tables<'_> {
     pub(crate) fn are_sound(&self) -> bool
         ensures { result ≡ sound (lent_masks self.now) }
     {
-        self.are_alike() && self.fit()
+        self.are_alike() && self.fit() && self.middle.len().checked_mul(self.steps).is_some()
     }
 
     fn are_alike(&self) -> bool
@@ -33,14 +33,13 @@ impl Tables<'_> {
             && is_end(self.suffix, rows)
     }
 
-    // Whether the steps hold them, and the range the coded bits.
+    // Whether the steps hold prefix, middles and suffix.
     fn fit(&self) -> bool
         requires { sound_tables (lent_masks self.now) ≡ true }
-        ensures { result ≡ (nat_le (covered (lent_masks self.now)) self.now.steps && nat_le (length (lent self.now.middle) * self.now.steps) 18446744073709551615) }
+        ensures { result ≡ nat_le (covered (lent_masks self.now)) self.now.steps }
     {
         let ends = end_width(self.prefix) + end_width(self.suffix);
         covers(self.steps, ends, self.times, width(self.middle))
-            && self.middle.len().checked_mul(self.steps).is_some()
     }
 
     // The columns of prefix, suffix and middles together.

@@ -1,4 +1,4 @@
-use Rattle.std.proofs.Common.{◌+◌, ◌-◌, true, replicate, sym, ap, ◌∙◌, arith}
+use Rattle.std.proofs.Common.{◌-◌, true, replicate, sym, ap, ◌∙◌, arith}
 use Rattle.std.proofs.lemmas.List.{length-replicate}
 use Rattle.puncture.specs.PatternsLemmas.{numbered_left, numbered_ones, numbered_past_ones, raised_twice}
 use Rattle.puncture.proofs.mask.Packed.place_past_middles.Goals as goal
