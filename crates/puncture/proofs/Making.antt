@@ -2,6 +2,7 @@
 use Rattle.std.proofs.Common.{◌≡◌, ℕ, ◌+◌, ◌-◌, ◌*◌, ◌^◌, ◌<◌, ◌≤◌, true, false, ◌&&◌, eqb, leb, length, Some, None, Option, sym, refl, ap, ◌∙◌, mul_assoc, mul_comm, mul-add, arith}
 use Rattle.std.proofs.lemmas.Nat.{mul-le}
 use Rattle.std.proofs.lemmas.List.{length-replicate}
+use Rattle.std.proofs.lemmas.Bool.Decides.{nat_tests}
 use Rattle.std.proofs.lemmas.Bool.{and_parts, cond-false, cond-true, eqb-true, leb-true}
 use Rattle.std.specs.List.{list_all}
 use Rattle.puncture.proofs.Tables.{length_columns}
@@ -30,40 +31,33 @@ flat_long t = length_columns t 0 (width t) ∙ mul_comm (width t) (length t)
 
 -- five rows of a sound period have 60 entries at most
 flat_short : (t : Table) → length t ≤ 5 → sound_period t ≡ true → length (flat t) ≤ 60
-flat_short t few e =
-    let w = (and_parts (leb 1 (width t) && leb (width t) 12) (list_all (sound_row (width t)) t) e).0 in
-    let narrow = leb-true (width t) 12 (and_parts (leb 1 (width t)) (leb (width t) 12) w).1 in
-    omega (arith, flat_long t, mul-le (length t) (width t) 5 12 few narrow)
+flat_short t few e = omega (arith, flat_long t, mul-le (length t) (width t) 5 12 few (grind (arith, nat_tests)))
 
 -- a sound table before or after the middle has as many rows
 end_long : (rows : ℕ) (o : Option Table) → rows ≤ 5 → sound_end rows o ≡ true → (length (end_flat o) ≡ rows * end_width o) × (length (end_flat o) ≤ 60)
 end_long rows None few e = (omega arith, omega arith)
 end_long rows (Some t) few e =
-    let a = and_parts (eqb (length t) rows) (sound_period t) e in
-    let same = eqb-true (length t) rows a.0 in
-    (flat_long t ∙ ap (λ n. n * width t) same, flat_short t (omega arith) a.1)
+    let same : length t ≡ rows = grind (arith, nat_tests) in
+    let sound : sound_period t ≡ true = grind (arith, nat_tests) in
+    (flat_long t ∙ ap (λ n. n * width t) same, flat_short t (omega arith) sound)
 
 pub fits : (m : Masks) → sound m ≡ true → Fits m
 fits m e =
     let rows = length m.middle in
-    let fit = leb (covered m) m.steps in
-    let ranged = leb (rows * m.steps) 18446744073709551615 in
-    let a = and_parts (sound_tables m) (fit && ranged) e in
-    let b = and_parts fit ranged a.1 in
-    let t = and_parts (sound_middle m.middle) (sound_end rows m.prefix && sound_end rows m.suffix) a.0 in
-    let ends = and_parts (sound_end rows m.prefix) (sound_end rows m.suffix) t.1 in
-    let p = and_parts (leb 1 rows && leb rows 5) (sound_period m.middle) t.0 in
-    let few = leb-true rows 5 (and_parts (leb 1 rows) (leb rows 5) p.0).1 in
-    let front = end_long rows m.prefix few ends.0 in
-    let back = end_long rows m.suffix few ends.1 in
+    let few : rows ≤ 5 = grind (arith, nat_tests) in
+    let period : sound_period m.middle ≡ true = grind (arith, nat_tests) in
+    let before : sound_end rows m.prefix ≡ true = grind (arith, nat_tests) in
+    let after : sound_end rows m.suffix ≡ true = grind (arith, nat_tests) in
+    let front = end_long rows m.prefix few before in
+    let back = end_long rows m.suffix few after in
     record {
-      short = flat_short m.middle few p.1;
+      short = flat_short m.middle few period;
       front = front.0;
       front_short = front.1;
       back = back.0;
       back_short = back.1;
-      within = leb-true _ _ b.0;
-      ranged = leb-true _ _ b.1;
+      within = grind (arith, nat_tests);
+      ranged = grind (arith, nat_tests);
     }
 
 -- entries of prefix p, k middles w and suffix s, and of the columns left of n
