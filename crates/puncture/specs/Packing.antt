@@ -1,11 +1,12 @@
 -- Entries packed into the bits of a number: reading one, counting the kept ones, and adding one.
-use Rattle.std.specs.Prelude.{◌≡◌, ℕ, zero, suc, ◌+◌, ◌-◌, ◌*◌, ◌/◌, ◌%◌, ◌^◌, ◌<◌, ◌≤◌, Bool, true, false, List, [], ◌∷◌, ◌++◌, length, take, ◌==◌, bit_and, bit_or, nat_eq, slice_index_or, refl}
+use Rattle.std.specs.Prelude.{◌≡◌, ℕ, zero, suc, ◌+◌, ◌-◌, ◌*◌, ◌/◌, ◌%◌, ◌^◌, ◌<◌, ◌≤◌, Bool, true, false, cond, List, [], ◌∷◌, ◌++◌, length, take, ◌==◌, bit_and, bit_or, nat_eq, slice_index_or, refl}
 use Rattle.std.proofs.Common.{sym, ap, ap₂, ◌∙◌, inl, inr, div-one, mod-eq_of_lt, mul_assoc, add-one, arith}
 use Rattle.std.proofs.Math.Nat.{mod-one, pow-suc}
 use Rattle.std.specs.Int.Count.{ones, ones_step}
 use mir.Val.{bool_byte}
 use Rattle.std.proofs.lemmas.Nat.{and_mask, div-mul-add, mod-mul-add, mod-pow-add, one_shl, or_shifted, pow_below, pow-add, shr-shr}
-use Rattle.std.proofs.lemmas.Bool.Decides.{eqb_tells}
+use Rattle.std.proofs.lemmas.Bool.Decides.{nat_tests}
+use Rattle.std.proofs.lemmas.List.Sums.{sum_by-cons}
 use Rattle.puncture.specs.Patterns.{kept}
 use Rattle.puncture.specs.Strips.{bits}
 
@@ -34,10 +35,10 @@ take_bits (suc i) (suc n) v h = ap (λ p. (v % 2 == 1) ∷ p) (take_bits i n (v 
 
 -- an entry that is the lowest bit counts as that bit
 kept_low : (v : ℕ) (p : List Bool) → kept ((v % 2 == 1) ∷ p) ≡ v % 2 + kept p
-kept_low v p = elim (eqb_tells (v % 2) 1) [
-  | inl h ↦ ap (λ b. kept (b ∷ p)) h.0 ∙ omega (arith, h.1)
-  | inr h ↦ ap (λ b. kept (b ∷ p)) h.0 ∙ omega (arith, h.1)
-]
+kept_low v p = omega (arith, sum_by-cons (λ on. cond on 1 0) (v % 2 == 1) p, low (v % 2) (omega arith))
+  where
+    low : (r : ℕ) → r < 2 → cond (r == 1) 1 0 ≡ r
+    low r h = grind (arith, nat_tests)
 
 -- no bits, no ones
 ones_none : ones 0 ≡ 0

@@ -1,11 +1,10 @@
 -- Patterns: which coded bits of a block are kept, in coded order.
+use Rattle.std.specs.List.{count_by}
 use Rattle.std.specs.Prelude.{ℕ, zero, suc, ◌+◌, Bool, true, false, cond, List, [], ◌∷◌, ◌++◌, take, replicate, Some, None, Option, slice_index_or}
 
 -- how many bits a pattern keeps
 abbrev pub kept : List Bool → ℕ
-kept [] = 0
-kept (true ∷ p) = suc (kept p)
-kept (false ∷ p) = kept p
+kept p = count_by (λ on. on) p
 
 -- the kept bits of a pattern numbered in coded order, none turned over
 abbrev pub numbered : List Bool → ℕ → Option (ℕ × Bool)

@@ -6,17 +6,21 @@ use Rattle.std.proofs.lemmas.Nat.{div-add-mod', div_below, mod_below}
 use Rattle.std.proofs.lemmas.List.{length-append, length-replicate, get_or_append_left, get_or-append-add, get_or-take, get_or_past, take-take, take-append-le, get_or-replicate, take-replicate}
 use Rattle.std.proofs.lemmas.Bool.{cases_lt, cases_order, cond-true, false≢true, le-ltb, lt-ltb}
 use Rattle.std.specs.Bool.{then_some}
+use Rattle.std.proofs.lemmas.List.Folds.{sum_by-replicate}
+use Rattle.std.proofs.lemmas.List.Sums.{count_by-le-length, sum_by-append, sum_by-cons, sum_by_more_le}
 use Rattle.puncture.specs.Patterns.{kept, laid_out, numbered, raised, times_over}
 
 -- a bit's answer, by whether it is kept and by its number
 abbrev answer : Bool → ℕ → Option (ℕ × Bool)
 answer b n = cond b (Some (n, false)) None
 
+-- what a bit adds to the kept ones
+abbrev one : Bool → ℕ
+one on = cond on 1 0
+
 -- two parts keep what each keeps
 pub kept_append : (p q : List Bool) → kept (p ++ q) ≡ kept p + kept q
-kept_append [] q = omega arith
-kept_append (true ∷ p) q = omega (arith, kept_append p q)
-kept_append (false ∷ p) q = kept_append p q
+kept_append p q = sum_by-append one p q
 
 -- a pattern n times over keeps n times as much
 pub kept_times : (n : ℕ) (p : List Bool) → kept (times_over n p) ≡ n * kept p
@@ -25,14 +29,11 @@ kept_times (suc n) p = omega (arith, kept_append p (times_over n p), kept_times 
 
 -- a pattern of ones keeps every bit
 pub kept_ones : (n : ℕ) → kept (replicate n true) ≡ n
-kept_ones zero = refl
-kept_ones (suc n) = ap suc (kept_ones n)
+kept_ones n = omega (arith, sum_by-replicate one n true)
 
 -- no pattern keeps more than it has
 pub kept_within : (p : List Bool) → kept p ≤ length p
-kept_within [] = omega arith
-kept_within (true ∷ p) = omega (arith, kept_within p)
-kept_within (false ∷ p) = omega (arith, kept_within p)
+kept_within p = count_by-le-length (λ on. on) p
 
 -- a pattern n times over is n times as long
 pub length_times : (n : ℕ) (p : List Bool) → length (times_over n p) ≡ n * length p
@@ -45,11 +46,10 @@ length_laid_out a n b k d = simp (length-append, length_times, length-replicate)
 
 -- before a kept bit there are fewer than all the kept ones
 fewer_before : (p : List Bool) (j : ℕ) → slice_index_or p j false ≡ true → kept (take j p) < kept p
-fewer_before [] j e = absurd (false≢true e)
-fewer_before (true ∷ p) zero e = omega arith
-fewer_before (false ∷ p) zero e = absurd (false≢true e)
-fewer_before (true ∷ p) (suc j) e = omega (arith, fewer_before p j e)
-fewer_before (false ∷ p) (suc j) e = fewer_before p j e
+fewer_before p j e = elim (cases_lt j (length p)) [
+  | inl h ↦ omega (arith, sum_by_more_le one p j false h, ap one e)
+  | inr h ↦ absurd (false≢true (sym (get_or_past p j false h) ∙ e))
+]
 
 -- a later bit has more kept ones before it than a kept one has
 later_more : (p : List Bool) (i j : ℕ) → i < j → slice_index_or p i false ≡ true → kept (take i p) < kept (take j p)
@@ -61,8 +61,12 @@ later_more p i j h e =
 kept_place : (p : List Bool) (k : ℕ) → k < kept p → (j : ℕ) × (slice_index_or p j false ≡ true) × (kept (take j p) ≡ k)
 kept_place [] k h = absurd (omega arith)
 kept_place (true ∷ p) zero h = (0, refl, refl)
-kept_place (true ∷ p) (suc k) h = let a = kept_place p k (omega arith) in (suc a.0, a.1, ap suc a.2)
-kept_place (false ∷ p) k h = let a = kept_place p k h in (suc a.0, a.1, a.2)
+kept_place (true ∷ p) (suc k) h =
+    let a = kept_place p k (omega (arith, sum_by-cons one true p)) in
+    (suc a.0, a.1, omega (arith, sum_by-cons one true (take a.0 p), a.2))
+kept_place (false ∷ p) k h =
+    let a = kept_place p k (omega (arith, sum_by-cons one false p)) in
+    (suc a.0, a.1, omega (arith, sum_by-cons one false (take a.0 p), a.2))
 
 -- only a kept bit is sent, to the number of kept ones before it
 numbered_from : (p : List Bool) (j k : ℕ) (t : Bool) → numbered p j ≡ Some (k, t) → (slice_index_or p j false ≡ true) × (kept (take j p) ≡ k)
