@@ -48,6 +48,10 @@ kept_pattern p k e =
       kept_ones p.left,
     )
 
+-- and no more than the range holds
+pub kept_fits : (p : Packed) (k : ℕ) → k ≡ kept (held p.middle) → kept (held p.prefix) + p.times * k + p.left + kept (held p.suffix) < 2 ^ 64
+kept_fits p k e = omega (arith, kept_pattern p k e, kept_within (pattern_of (Sound p)), length_strips p.prefix p.middle p.suffix p.times p.left, p.small)
+
 -- the laws of the mask's line, as of any pattern
 pub mask_laws : Laws mask_line
 mask_laws = record {
