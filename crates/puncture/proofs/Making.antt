@@ -1,16 +1,15 @@
 -- Sound masks: what their tables hold, and how long their pattern is.
-use Rattle.std.proofs.Common.{◌≡◌, ℕ, ◌+◌, ◌-◌, ◌*◌, ◌^◌, ◌<◌, ◌≤◌, true, false, ◌&&◌, eqb, leb, length, Some, None, Option, sym, refl, ap, ◌∙◌, mul_assoc, mul_comm, mul-add, arith}
+use Rattle.std.proofs.Common.{◌≡◌, ℕ, ◌+◌, ◌-◌, ◌*◌, ◌^◌, ◌<◌, ◌≤◌, true, false, length, Some, None, Option, sym, refl, ap, ◌∙◌, mul_assoc, mul_comm, mul-add, arith}
 use Rattle.std.proofs.lemmas.Nat.{mul-le}
 use Rattle.std.proofs.lemmas.List.{length-replicate}
 use Rattle.std.proofs.lemmas.Bool.Decides.{nat_tests}
-use Rattle.std.proofs.lemmas.Bool.{and_parts, cond-false, cond-true, eqb-true, leb-true}
-use Rattle.std.specs.List.{list_all}
+use Rattle.std.proofs.lemmas.Bool.{cond-false, cond-true}
 use Rattle.puncture.proofs.Tables.{length_columns}
 use Rattle.puncture.specs.Masking.{length_strips}
 use Rattle.puncture.specs.PatternsLemmas.{length_laid_out}
 use Rattle.puncture.specs.Patterns.{kept, laid_out, numbered}
 use Rattle.puncture.specs.Laying.{Lays}
-use Rattle.puncture.specs.Masks.{Masks, Table, coded_of, covered, end_flat, end_width, flat, pattern, sound, sound_end, sound_middle, sound_period, sound_row, sound_tables, width}
+use Rattle.puncture.specs.Masks.{Masks, Table, coded_of, covered, end_flat, end_width, flat, pattern, sound, sound_end, sound_period, width}
 use Rattle.puncture.specs.Strips.{held, pattern_of, suits}
 use Rattle.puncture.specs.declared.mask.Mask.{Mask}
 use Rattle.puncture.specs.declared.mask.strip.Strip.{Strip}

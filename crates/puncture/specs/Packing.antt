@@ -1,6 +1,6 @@
 -- Entries packed into the bits of a number: reading one, counting the kept ones, and adding one.
 use Rattle.std.specs.Prelude.{◌≡◌, ℕ, zero, suc, ◌+◌, ◌-◌, ◌*◌, ◌/◌, ◌%◌, ◌^◌, ◌<◌, ◌≤◌, Bool, true, false, cond, List, [], ◌∷◌, ◌++◌, length, take, ◌==◌, bit_and, bit_or, nat_eq, slice_index_or, refl}
-use Rattle.std.proofs.Common.{sym, ap, ap₂, ◌∙◌, inl, inr, div-one, mod-eq_of_lt, mul_assoc, add-one, arith}
+use Rattle.std.proofs.Common.{sym, ap, ap₂, ◌∙◌, div-one, mod-eq_of_lt, mul_assoc, add-one, arith}
 use Rattle.std.proofs.Math.Nat.{mod-one, pow-suc}
 use Rattle.std.specs.Int.Count.{ones, ones_step}
 use mir.Val.{bool_byte}

@@ -1,6 +1,6 @@
 -- Patterns: which coded bits of a block are kept, in coded order.
 use Rattle.std.specs.List.{count_by}
-use Rattle.std.specs.Prelude.{ℕ, zero, suc, ◌+◌, Bool, true, false, cond, List, [], ◌∷◌, ◌++◌, take, replicate, Some, None, Option, slice_index_or}
+use Rattle.std.specs.Prelude.{ℕ, zero, suc, ◌+◌, Bool, true, false, cond, List, [], ◌++◌, take, replicate, Some, None, Option, slice_index_or}
 
 -- how many bits a pattern keeps
 abbrev pub kept : List Bool → ℕ

@@ -127,7 +127,11 @@ pub numbered_ones : (n j : ℕ) → j < n → numbered (replicate n true) j ≡ 
 numbered_ones n j h =
     ap₂ answer (get_or-replicate n j true false h) (ap kept (take-replicate j n true (omega arith)) ∙ kept_ones j)
 
--- and that is all of them
+-- and so where more bits follow
+pub numbered_among_ones : (n : ℕ) (q : List Bool) (j : ℕ) → j < n → numbered (replicate n true ++ q) j ≡ Some (j, false)
+numbered_among_ones n q j h = numbered_left (replicate n true) q j (omega (arith, length-replicate n true)) ∙ numbered_ones n j h
+
+-- past the ones there are no more
 pub numbered_whole : (n j : ℕ) → numbered (replicate n true) j ≡ then_some (ltb j n) (j, false)
 numbered_whole n j = elim (cases_lt j n) [
   | inl h ↦ numbered_ones n j h ∙ sym (ap (λ b. then_some b (j, false)) (lt-ltb j n h))

@@ -32,6 +32,7 @@ impl Line for Mask {
         }
     }
 
+    #[tactic(auto, using(crate::specs::PatternsLemmas::kept_ones))]
     fn burst_bits(&self) -> usize {
         match self {
             Mask::Sound(packed) => packed.burst_bits(),
@@ -43,6 +44,7 @@ impl Line for Mask {
         matches!(self, Mask::Sound(_))
     }
 
+    #[tactic(auto, using(crate::specs::PatternsLemmas::numbered_whole))]
     fn place_of(&self, j: usize) -> Option<(usize, bool)> {
         match self {
             Mask::Sound(packed) => packed.place_of(j),
@@ -52,6 +54,7 @@ impl Line for Mask {
 }
 
 impl Packed {
+    #[tactic(auto, using(crate::specs::Masking::length_strips))]
     fn coded_bits(&self) -> usize
         ensures { result ≡ length (pattern_of (Sound self.now)) }
     {
@@ -65,6 +68,7 @@ impl Packed {
         self.prefix.kept() + self.times * self.middle.kept() + self.left + self.suffix.kept()
     }
 
+    #[tactic(auto, using(crate::specs::Masking::held_within, crate::specs::Packing::length_bits, crate::specs::PatternsLemmas::numbered_left, crate::specs::PatternsLemmas::numbered_past, crate::specs::PatternsLemmas::raised_none))]
     fn place_of(&self, j: usize) -> Option<(usize, bool)>
         ensures { result ≡ numbered (pattern_of (Sound self.now)) j }
     {
@@ -76,6 +80,7 @@ impl Packed {
     }
 
     // Places are counted from the end of the part before; so many bits of it and before it are kept.
+    #[tactic(auto, using(crate::specs::Masking::turn_fits, crate::specs::Masking::turns_fit, crate::specs::Packing::length_bits, crate::specs::PatternsLemmas::numbered_in_turns, crate::specs::PatternsLemmas::numbered_past_turns, crate::specs::PatternsLemmas::raised_twice))]
     fn place_past_prefix(&self, j: usize, before: usize) -> Option<(usize, bool)>
         requires { before ≤ self.now.prefix.length }
         ensures { result ≡ raised before (numbered (past_prefix self.now) j) }
@@ -90,6 +95,7 @@ impl Packed {
         }
     }
 
+    #[tactic(auto, using(crate::specs::PatternsLemmas::numbered_among_ones, crate::specs::PatternsLemmas::numbered_past_ones, crate::specs::PatternsLemmas::raised_twice))]
     fn place_past_middles(&self, j: usize, before: usize) -> Option<(usize, bool)>
         requires { before ≤ self.now.prefix.length + self.now.times * self.now.middle.length }
         ensures { result ≡ raised before (numbered (past_middles self.now) j) }

@@ -43,6 +43,7 @@ impl Strip {
         strip
     }
 
+    #[tactic(auto, using(crate::specs::Packing::entry_last, crate::specs::Packing::entry_whole))]
     fn with_entry(self, keep: bool) -> Strip
         requires { self.length < 60 }
         ensures { held result ≡ held self ++ keep ∷ [] }

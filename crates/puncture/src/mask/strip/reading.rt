@@ -6,6 +6,7 @@ ghost use Rattle.puncture.specs.Strips.{held};
 use super::Strip;
 
 impl Strip {
+    #[tactic(auto, using(crate::specs::Packing::read_bit))]
     fn keeps(&self, at: usize) -> bool
         requires { at < self.now.length }
         ensures { result ≡ slice_index_or (held self.now) at false }
@@ -13,6 +14,7 @@ impl Strip {
         (self.bits >> at) & 1 == 1
     }
 
+    #[tactic(auto, using(crate::specs::Packing::count_before))]
     fn kept_before(&self, at: usize) -> usize
         requires { at < self.now.length }
         ensures { result ≡ kept (take at (held self.now)) }
@@ -20,6 +22,7 @@ impl Strip {
         (self.bits & ((1 << at) - 1)).count_ones() as usize
     }
 
+    #[tactic(auto, using(crate::specs::Packing::count_all))]
     pub(crate) fn kept(&self) -> usize
         ensures { result ≡ kept (held self.now) }
     {
@@ -27,6 +30,7 @@ impl Strip {
     }
 
     // The number of an entry among the kept ones, after those kept before the strip.
+    #[tactic(auto, using(crate::specs::PatternsLemmas::kept_within, crate::specs::PatternsLemmas::numbered_off, crate::specs::PatternsLemmas::numbered_ended, crate::specs::Packing::length_bits))]
     pub(crate) fn number_of(&self, at: usize, before: usize) -> Option<(usize, bool)>
         requires { before + self.now.length < 2 ^ 64 }
         ensures { result ≡ raised before (numbered (held self.now) at) }

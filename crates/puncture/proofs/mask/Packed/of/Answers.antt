@@ -1,6 +1,6 @@
 use Rattle.std.proofs.Common.{◌≡◌, ℕ, ◌-◌, ◌*◌, length, sym, ap₂}
 use Rattle.std.proofs.lemmas.List.{length-map}
-use Rattle.puncture.proofs.Making.{fits, strips_pattern, strips_small}
+use Rattle.puncture.proofs.Making.{fits, strips_small}
 use Rattle.puncture.proofs.mask.Packed.of.Goals as goal
 use Rattle.puncture.specs.Masks.{covered, lent, lent_masks}
 use Rattle.puncture.specs.declared.mask.tables.Tables.{Tables}
@@ -24,8 +24,3 @@ invariant_of-result c =
     record {
       small = strips_small (lent_masks t) c.requires c.packed_end.result c.packed.result c.packed_end-2.result _ c.packed_end.ensures c.packed.ensures c.packed_end-2.ensures (left_over t _ c.covered.ensures);
     }
-
-pub returns : goal.returns
-returns c =
-    let t = c.args.tables.now in
-    strips_pattern (lent_masks t) c.requires c.packed_end.result c.packed.result c.packed_end-2.result _ c.packed_end.ensures c.packed.ensures c.packed_end-2.ensures (left_over t _ c.covered.ensures)
