@@ -88,7 +88,7 @@ lays m r s p = record { coded = ap length p ∙ length_pattern m; suited = s; se
 module _ (m : Masks) (ok : sound m ≡ true) (a b d : Strip) (left : ℕ) (front : held a ≡ end_flat m.prefix) (middle : held b ≡ flat m.middle) (back : held d ≡ end_flat m.suffix)
     (over : left ≡ length m.middle * (m.steps - covered m)) where
   -- make its pattern
-  pub strips_pattern : laid_out (held a) m.times (held b) left (held d) ≡ pattern m
+  strips_pattern : laid_out (held a) m.times (held b) left (held d) ≡ pattern m
   strips_pattern = (λ i. laid_out (front i) m.times (middle i) (over i) (back i)) ∙ sym (cond-true (sound m) _ _ ok)
 
   -- and lie within the range

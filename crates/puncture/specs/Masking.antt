@@ -4,7 +4,7 @@ use Rattle.std.proofs.Common.{ap, ◌∙◌, mul-le-mul_left, mul-le-mul_right, 
 use Rattle.std.proofs.lemmas.Nat.{div_below}
 use Rattle.line.specs.Lawful.{Laws}
 use Rattle.puncture.specs.Packing.{length_bits}
-use Rattle.puncture.specs.PatternsLemmas.{kept_append, kept_ones, kept_times, kept_within, length_laid_out, numbered_within, numbered_apart, numbered_filled, numbered_ended, turns_some}
+use Rattle.puncture.specs.PatternsLemmas.{kept_append, kept_ones, kept_times, kept_within, length_laid_out, numbered_left, numbered_past, numbered_in_turns, numbered_past_turns, numbered_among_ones, numbered_past_ones, numbered_within, numbered_apart, numbered_filled, numbered_ended, numbered_off, raised_none, raised_twice, turns_some}
 use Rattle.puncture.specs.Patterns.{kept, laid_out, times_over}
 use Rattle.puncture.specs.Laying.{mask_line}
 use Rattle.puncture.specs.Strips.{held, past_middles, past_prefix, pattern_of}
@@ -51,6 +51,12 @@ kept_pattern p k e =
 -- and no more than the range holds
 pub kept_fits : (p : Packed) (k : ℕ) → k ≡ kept (held p.middle) → kept (held p.prefix) + p.times * k + p.left + kept (held p.suffix) < 2 ^ 64
 kept_fits p k e = omega (arith, kept_pattern p k e, kept_within (pattern_of (Sound p)), length_strips p.prefix p.middle p.suffix p.times p.left, p.small)
+
+-- how the entries of one strip are numbered
+pub ruleset entries = (length_bits, kept_within, numbered_off, numbered_ended)
+
+-- how the bits of one part are numbered among all
+pub ruleset parts = (length_bits, held_within, turn_fits, turns_fit, numbered_left, numbered_past, numbered_in_turns, numbered_past_turns, numbered_among_ones, numbered_past_ones, raised_none, raised_twice)
 
 -- the laws of the mask's line, as of any pattern
 pub mask_laws : Laws mask_line

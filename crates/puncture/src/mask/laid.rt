@@ -68,7 +68,7 @@ impl Packed {
         self.prefix.kept() + self.times * self.middle.kept() + self.left + self.suffix.kept()
     }
 
-    #[tactic(auto, using(crate::specs::Masking::held_within, crate::specs::Packing::length_bits, crate::specs::PatternsLemmas::numbered_left, crate::specs::PatternsLemmas::numbered_past, crate::specs::PatternsLemmas::raised_none))]
+    #[tactic(auto, using(crate::specs::Masking::parts))]
     fn place_of(&self, j: usize) -> Option<(usize, bool)>
         ensures { result ≡ numbered (pattern_of (Sound self.now)) j }
     {
@@ -80,7 +80,7 @@ impl Packed {
     }
 
     // Places are counted from the end of the part before; so many bits of it and before it are kept.
-    #[tactic(auto, using(crate::specs::Masking::turn_fits, crate::specs::Masking::turns_fit, crate::specs::Packing::length_bits, crate::specs::PatternsLemmas::numbered_in_turns, crate::specs::PatternsLemmas::numbered_past_turns, crate::specs::PatternsLemmas::raised_twice))]
+    #[tactic(auto, using(crate::specs::Masking::parts))]
     fn place_past_prefix(&self, j: usize, before: usize) -> Option<(usize, bool)>
         requires { before ≤ self.now.prefix.length }
         ensures { result ≡ raised before (numbered (past_prefix self.now) j) }
@@ -95,7 +95,7 @@ impl Packed {
         }
     }
 
-    #[tactic(auto, using(crate::specs::PatternsLemmas::numbered_among_ones, crate::specs::PatternsLemmas::numbered_past_ones, crate::specs::PatternsLemmas::raised_twice))]
+    #[tactic(auto, using(crate::specs::Masking::parts))]
     fn place_past_middles(&self, j: usize, before: usize) -> Option<(usize, bool)>
         requires { before ≤ self.now.prefix.length + self.now.times * self.now.middle.length }
         ensures { result ≡ raised before (numbered (past_middles self.now) j) }
