@@ -48,10 +48,6 @@ kept_pattern p k e =
       kept_ones p.left,
     )
 
--- and no more than the range holds
-pub kept_fits : (p : Packed) (k : ℕ) → k ≡ kept (held p.middle) → kept (held p.prefix) + p.times * k + p.left + kept (held p.suffix) < 2 ^ 64
-kept_fits p k e = omega (arith, kept_pattern p k e, kept_within (pattern_of (Sound p)), length_strips p.prefix p.middle p.suffix p.times p.left, p.small)
-
 -- how the entries of one strip are numbered
 pub ruleset entries = (length_bits, kept_within, numbered_off, numbered_ended)
 

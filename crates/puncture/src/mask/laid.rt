@@ -61,7 +61,7 @@ impl Packed {
         self.prefix.length + self.times * self.middle.length + self.left + self.suffix.length
     }
 
-    #[tactic(auto, using(crate::specs::Masking::kept_fits, crate::specs::Masking::kept_pattern))]
+    #[tactic(auto, using(crate::specs::Masking::held_within, crate::specs::Masking::turns_fit, crate::specs::Masking::kept_pattern))]
     fn burst_bits(&self) -> usize
         ensures { result ≡ kept (pattern_of (Sound self.now)) }
     {
