@@ -5,10 +5,10 @@ use Rattle.std.proofs.lemmas.Bool.{and_parts, leb-true}
 use Rattle.cost.specs.declared.kind.Cost.{Ghosts}
 use Rattle.cost.proofs.Lawful.{Laws}
 use Rattle.trellis.specs.Bits.{bit_of, bits}
-use Rattle.trellis.specs.Cells.{Marked, cost_kept, kept_at}
+use Rattle.trellis.specs.Cells.{MarkedBelow, cost_kept, kept_at}
 use Rattle.trellis.specs.Codes.{rows_of, sound}
 use Rattle.trellis.specs.declared.code.Code.{Code}
-use Rattle.trellis.specs.Decoding.{Answered, ready}
+use Rattle.trellis.specs.Decoding.{Answered, has_room}
 use Rattle.trellis.specs.Met.{Fit}
 use Rattle.trellis.specs.Rule.{survivor}
 use Rattle.trellis.specs.Tracing.{Recorded}
@@ -21,12 +21,12 @@ bits_none : (n : ℕ) → bits n 0 ≡ replicate n false
 bits_none zero = refl
 bits_none (suc n) = ap (λ r. false ∷ r) (bits_none n)
 
--- where the decoder can run, the path record has a row for every step
-pub ready_paths : (code : Code) (steps cells paths : ℕ) → ready code steps cells paths ≡ true → steps * 2 ^ code.memory ≤ paths
-ready_paths code steps cells paths e =
+-- where there is room to run, the path record has a row for every step
+pub room_paths : (code : Code) (steps cells paths : ℕ) → has_room code steps cells paths ≡ true → steps * 2 ^ code.memory ≤ paths
+room_paths code steps cells paths e =
     let range = leb code.memory steps && leb steps 2048 in
     let room = leb (2 * 2 ^ code.memory) cells && leb (steps * 2 ^ code.memory) paths in
-    let later = (and_parts range room (and_parts (sound code) (range && room) e).1).1 in
+    let later = (and_parts range room e).1 in
     leb-true (steps * 2 ^ code.memory) paths (and_parts (leb (2 * 2 ^ code.memory) cells) (leb (steps * 2 ^ code.memory) paths) later).1
 
 -- each row has at least one place
@@ -37,7 +37,7 @@ module _ {C S P : Type 0} {k : Ghosts C S P} (laws : Laws k) (code : Code) (met 
   -- with every mark right and the path of register 0 traced back, what is left is the rule's answer
   pub answers : sound code ≡ true → (steps : ℕ) → code.memory ≤ steps → (cost : Option C) (marked traced : List ℕ) →
       cost ≡ cost_kept k (rows_of code) met (kept_at k (rows_of code) met code.memory steps 0) →
-      ((t s : ℕ) → t < steps → s < 2 ^ code.memory → Marked code.memory (kept_at k (rows_of code) met code.memory) marked t s) →
+      MarkedBelow code.memory (kept_at k (rows_of code) met code.memory) marked steps →
       ((kept : ℕ → ℕ → Option (List Bool)) (path : List Bool) → Recorded code.memory steps kept path marked → take steps traced ≡ map bit_of (reverse path)) →
       Answered k (rows_of code) met code.memory steps cost traced
   answers ok steps long cost marked traced value marks back =

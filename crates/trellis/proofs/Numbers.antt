@@ -1,5 +1,5 @@
 -- Windows and registers as numbers.
-use Rattle.std.proofs.Common.{◌≡◌, ℕ, zero, suc, ◌+◌, ◌*◌, ◌/◌, ◌%◌, ◌^◌, ◌<◌, min, Bool, true, false, not, ◌&&◌, eqb, ◌⊎◌, List, [], ◌∷◌, ◌++◌, length, get_or, set, sym, refl, ap, ◌∙◌, ap₂, inl, inr, pow-suc, arith, length-set, get_or-set_other, get_or-set_same}
+use Rattle.std.proofs.Common.{◌≡◌, ℕ, zero, suc, ◌+◌, ◌*◌, ◌/◌, ◌%◌, ◌^◌, ◌<◌, ◌≤◌, min, Bool, true, false, not, ◌&&◌, eqb, ◌⊎◌, List, [], ◌∷◌, ◌++◌, length, get_or, set, sym, refl, ap, ◌∙◌, ap₂, inl, inr, pow-suc, arith, length-set, get_or-set_other, get_or-set_same}
 use lib.Bits.{bit_and, and_step, and_zero_l}
 use lib.Count.{ones, ones_step}
 use Rattle.std.proofs.lemmas.Nat.{div-mul-add, mod-mul-add}
@@ -42,10 +42,11 @@ pub bits_length : (n v : ℕ) → length (bits n v) ≡ n
 bits_length zero v = refl
 bits_length (suc n) v = ap suc (bits_length n (v / 2))
 
--- a number's bits are their own register
-pub register_bits : (n v : ℕ) → register n (bits n v) ≡ bits n v
-register_bits zero v = refl
-register_bits (suc n) v = ap (λ r. odd v ∷ r) (register_bits n (v / 2))
+-- the register behind a number's bits has its lowest ones
+pub register_bits : (n k v : ℕ) → n ≤ k → register n (bits k v) ≡ bits n v
+register_bits zero k v h = refl
+register_bits (suc n) zero v h = absurd (omega arith)
+register_bits (suc n) (suc k) v h = ap (λ r. odd v ∷ r) (register_bits n k (v / 2) (omega arith))
 
 -- an older bit stands above the others
 pub bits_older : (n v : ℕ) (b : Bool) → v < 2 ^ n → bits n v ++ b ∷ [] ≡ bits (suc n) (v + bit_of b * 2 ^ n)

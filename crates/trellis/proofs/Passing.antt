@@ -1,42 +1,35 @@
 -- From the first cells to the last: what stands before the first step, the rows of marks that a step leaves, and the cost at the end.
-use Rattle.std.proofs.Common.{◌≡◌, ℕ, suc, ◌+◌, ◌-◌, ◌*◌, ◌/◌, ◌%◌, ◌^◌, ◌<◌, ◌≤◌, Bool, true, false, cond, eqb, ◌⊎◌, List, [], get_or, Some, None, Option, sym, refl, ap, ◌∙◌, subst, inl, inr, add-one, arith}
-use Rattle.std.proofs.lemmas.Bool.{cases_eq, eq-eqb, ne_eqb, cond-true, cond-false}
+use Rattle.std.proofs.Common.{◌≡◌, ℕ, suc, ◌+◌, ◌-◌, ◌*◌, ◌^◌, ◌<◌, ◌≤◌, Bool, true, false, cond, eqb, ◌⊎◌, List, [], ◌++◌, length, get_or, take, Some, None, Option, sym, refl, ap, ◌∙◌, subst, inl, inr, add-one, arith, length-take-le, get_or-take}
+use Rattle.std.proofs.lemmas.List.{get_or_append_left, get_or-append_right}
+use Rattle.std.proofs.lemmas.Bool.{cases_eq}
 use Rattle.cost.specs.declared.kind.Cost.{Ghosts}
-use Rattle.trellis.specs.Bits.{odd}
-use Rattle.trellis.specs.Cells.{Marked, cost_kept, laid_cost, Cells}
+use Rattle.trellis.specs.Cells.{Marked, MarkedBelow, cost_kept, laid_cost, Cells}
 use Rattle.trellis.specs.Paths.{cost_of}
-use Rattle.trellis.specs.Rule.{extended, survivor}
-use Rattle.trellis.specs.Windows.{SameBelow, first_cell, lifted}
+use Rattle.trellis.specs.Rule.{survivor}
+use Rattle.trellis.specs.Windows.{first_cell, lifted}
 use Rattle.trellis.proofs.Numbers.{bits_empty}
 use Rattle.trellis.proofs.Records.{row_within}
 
--- at an even number of steps it is the first row's turn
-pub turn_even : {X : Type 0} (n : ℕ) (first second : X) → n % 2 ≡ 0 → cond (odd n) second first ≡ first
-turn_even n first second e = cond-false (odd n) second first (ne_eqb (n % 2) 1 (λ f. omega arith))
-
--- at an odd number it is the second's
-pub turn_odd : {X : Type 0} (n : ℕ) (first second : X) → (n % 2 ≡ 0 → ⊥) → cond (odd n) second first ≡ second
-turn_odd n first second e = cond-true (odd n) second first (eq-eqb (n % 2) 1 (omega arith))
-
--- a mark is what it was where the path record is
-marked_same : (m : ℕ) (kept : ℕ → ℕ → Option (List Bool)) (before after : List ℕ) (t s : ℕ) → get_or after (t * 2 ^ m + s) 0 ≡ get_or before (t * 2 ^ m + s) 0 →
-    Marked m kept before t s → Marked m kept after t s
-marked_same m kept before after t s e h = record {
-  bit = subst (λ v. v ≤ 1) (sym e) h.bit;
-  from = h.from ∙ ap (λ v. extended (odd s) (kept t (s / 2 + v * 2 ^ (m - 1)))) (sym e);
-}
-
--- a step adds its row of marks to those below
-pub marks_more : (m t : ℕ) (kept : ℕ → ℕ → Option (List Bool)) (before after : List ℕ) → SameBelow (t * 2 ^ m) before after →
-    ((u s : ℕ) → u < t → s < 2 ^ m → Marked m kept before u s) → ((s : ℕ) → s < 2 ^ m → Marked m kept after t s) →
-    (u s : ℕ) → u < t + 1 → s < 2 ^ m → Marked m kept after u s
-marks_more m t kept before after same below here u s h f = by_row (cases_eq u t)
+-- a step adds its row of marks, written at the row's place in the path record, to those below
+pub marks_more : (m t a : ℕ) (kept : ℕ → ℕ → Option (List Bool)) (before row rest : List ℕ) → a ≡ t * 2 ^ m → a ≤ length before → length row ≡ 2 ^ m →
+    MarkedBelow m kept before t → ((s : ℕ) → s < 2 ^ m → Marked m kept (get_or row s 0) t s) → MarkedBelow m kept (take a before ++ (row ++ rest)) (t + 1)
+marks_more m t a kept before row rest place room wide below here u s h f = by_row (cases_eq u t)
   where
-    by_row : ((u ≡ t) ⊎ (u ≡ t → ⊥)) → Marked m kept after u s
-    by_row (inl e) = subst (λ r. Marked m kept after r s) (sym e) (here s f)
+    long : length (take a before) ≡ a
+    long = length-take-le a before room
+
+    by_row : ((u ≡ t) ⊎ (u ≡ t → ⊥)) → Marked m kept (get_or (take a before ++ (row ++ rest)) (u * 2 ^ m + s) 0) u s
+    by_row (inl e) =
+        let same : u * 2 ^ m ≡ a = ap (λ n. n * 2 ^ m) e ∙ sym place in
+        let back : u * 2 ^ m + s - a ≡ s = omega (arith, same) in
+        let mark = get_or-append_right (take a before) (row ++ rest) a (u * 2 ^ m + s) 0 long (omega (arith, same))
+        ∙ ap (λ n. get_or (row ++ rest) n 0) back ∙ get_or_append_left row rest 0 s (omega arith) in
+        subst (λ v. Marked m kept v u s) (sym mark) (subst (λ r. Marked m kept (get_or row s 0) r s) (sym e) (here s f))
     by_row (inr e) =
         let less : u < t = omega arith in
-        marked_same m kept before after u s (same (u * 2 ^ m + s) (row_within m t u s less f)) (below u s less f)
+        let within : u * 2 ^ m + s < a = omega (arith, row_within m t u s less f) in
+        let mark = get_or_append_left (take a before) (row ++ rest) 0 (u * 2 ^ m + s) (omega (arith, long, within)) ∙ get_or-take a before (u * 2 ^ m + s) 0 within in
+        subst (λ v. Marked m kept v u s) (sym mark) (below u s less f)
 
 module _ {C S P : Type 0} (k : Ghosts C S P) (rows : List ℕ) (met : ℕ → List (S × Bool)) where
   -- the path without bits has no cost

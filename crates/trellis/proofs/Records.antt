@@ -12,6 +12,13 @@ row_exact t memory h k = shl_whole t 12 memory 64 (omega arith) (omega arith)
 pub row_within : (memory steps t s : ℕ) → t < steps → s < 2 ^ memory → t * 2 ^ memory + s < steps * 2 ^ memory
 row_within memory steps t s h k = omega (arith, mul-add-lt t (2 ^ memory) s steps h k)
 
+-- so does the whole of it
+pub row_fits : (memory steps t : ℕ) → t < steps → t * 2 ^ memory + 2 ^ memory ≤ steps * 2 ^ memory
+row_fits memory steps t h =
+    let some = pow_pos memory in
+    let last = row_within memory steps t (2 ^ memory - 1) h (omega arith) in
+    omega arith
+
 -- a row begins no earlier than at its own number
 pub row_after : (t memory : ℕ) → t ≤ t * 2 ^ memory
 row_after t memory = omega (arith, mul-le t 1 t (2 ^ memory) (omega arith) (pow_pos memory))

@@ -53,7 +53,7 @@ summed_none [] = refl
 summed_none (b ∷ p) = summed_none p
 
 -- a row whose taps fit the register sums the register
-summed_register : (n taps : ℕ) (p : List Bool) → taps < 2 ^ n → summed taps p ≡ summed taps (register n p)
+pub summed_register : (n taps : ℕ) (p : List Bool) → taps < 2 ^ n → summed taps p ≡ summed taps (register n p)
 summed_register zero taps p h = let none : taps ≡ 0 = omega arith in ap (λ v. summed v p) none ∙ summed_none p
 summed_register (suc n) taps [] h =
     let rest : taps / 2 < 2 ^ n = omega (arith, pow-suc 2 n) in

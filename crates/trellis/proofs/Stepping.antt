@@ -1,13 +1,14 @@
 -- One step of the trellis: windows grown and met are the paths that the rule keeps.
-use Rattle.std.proofs.Common.{◌≡◌, ℕ, zero, suc, ◌+◌, ◌-◌, ◌*◌, ◌/◌, ◌%◌, ◌^◌, ◌<◌, ◌≤◌, Bool, true, false, cond, eqb, ltb, List, [], ◌∷◌, length, get_or, Some, None, Option, sym, refl, ap, ◌∙◌, ap₂, pow-suc, arith}
-use Rattle.std.proofs.lemmas.Bool.{and_parts, cond_both, ltb-true}
+use Rattle.std.proofs.Common.{◌≡◌, ℕ, zero, suc, ◌+◌, ◌-◌, ◌*◌, ◌/◌, ◌%◌, ◌^◌, ◌<◌, ◌≤◌, Bool, true, false, not, cond, eqb, ltb, List, [], ◌∷◌, length, get_or, Some, None, Option, sym, refl, ap, ◌∙◌, ap₂, pow-suc, arith}
+use Rattle.std.proofs.lemmas.Bool.{and_parts, ltb-true}
 use Rattle.cost.specs.declared.kind.Cost.{Ghosts}
-use Rattle.trellis.specs.Bits.{odd, bits}
+use Rattle.trellis.specs.Bits.{odd, bit_of, bits}
 use Rattle.trellis.specs.Codes.{summed, all_below}
 use Rattle.trellis.specs.Paths.{register, grown_by, grown_rows, cost_of}
 use Rattle.trellis.specs.Rule.{extended, kept, survivor}
 use Rattle.trellis.specs.Cells.{Marked, kept_at, cost_kept, laid_cost, Cells}
-use Rattle.trellis.specs.Windows.{arrived, window_cost, Spread, Grown, lower, mark, laid, LaidLower, MarkedLower}
+use Rattle.trellis.specs.Windows.{arrived, window_cost, Spread, Grown, lower, second_kept, laid, LaidLower, MarkedLower}
+use Rattle.trellis.proofs.Bitwise.{bit_below}
 use Rattle.trellis.proofs.Numbers.{bits_length, bits_older, register_bits}
 use Rattle.trellis.proofs.Registers.{summed_same}
 use Rattle.trellis.proofs.Survivors.{survivor_length, survivor_register}
@@ -23,13 +24,13 @@ module _ {C S P : Type 0} (k : Ghosts C S P) (rows : List ℕ) (met : ℕ → Li
       ∙ grown_rows_same n p q e rs parts.1 (suc j) (grown_by k c (summed taps q) (met j))
 
   -- a survivor's cost grown in its window is the cost of the path with the window's newest bit
-  window_grown : (m t w : ℕ) (p : List Bool) → all_below (2 ^ suc m) rows ≡ true → kept_at k rows met m t (w / 2) ≡ Some p →
-      grown_rows k rows met (cost_of k rows met p) (bits (suc m) w) (length rows * t) rows ≡ cost_of k rows met (odd w ∷ p)
+  window_grown : (m t w : ℕ) (p : List Bool) → m ≤ 7 → all_below (2 ^ suc m) rows ≡ true → kept_at k rows met m t (w / 2) ≡ Some p →
+      grown_rows k rows met (cost_of k rows met p) (bits 8 w) (length rows * t) rows ≡ cost_of k rows met (odd w ∷ p)
   unfolding cost_of
-  window_grown m t w p below e =
+  window_grown m t w p few below e =
       let long = survivor_length k rows met t (bits m (w / 2)) p e in
       let here : register m p ≡ bits m (w / 2) = ap (λ n. register n p) (sym (bits_length m (w / 2))) ∙ survivor_register k rows met t (bits m (w / 2)) p e in
-      grown_rows_same (suc m) (bits (suc m) w) (odd w ∷ p) (register_bits (suc m) w ∙ ap (λ r. odd w ∷ r) (sym here)) rows below (length rows * t) (cost_of k rows met p)
+      grown_rows_same (suc m) (bits 8 w) (odd w ∷ p) (register_bits (suc m) 8 w (omega arith) ∙ ap (λ r. odd w ∷ r) (sym here)) rows below (length rows * t) (cost_of k rows met p)
       ∙ ap (λ n. grown_rows k rows met (cost_of k rows met p) (odd w ∷ p) (length rows * n) rows) (sym long)
 
   -- the lower of two paths' costs is the cost of the one that is kept
@@ -48,22 +49,15 @@ module _ {C S P : Type 0} (k : Ghosts C S P) (rows : List ℕ) (met : ℕ → Li
   laid_kept None = refl
   laid_kept (Some p) = refl
 
-  -- a mark is 0 or 1
-  mark_bit : (a b : Option C) → mark k a b ≤ 1
-  mark_bit None None = omega arith
-  mark_bit None (Some b) = omega arith
-  mark_bit (Some a) None = omega arith
-  mark_bit (Some a) (Some b) = cond_both (k.le a b) 0 1 (λ n. n ≤ 1) (λ _. omega arith) (λ _. omega arith)
-
   -- of two extended paths the mark tells which is kept
   mark_kept : (b : Bool) (f : ℕ → Option (List Bool)) (x y : Option (List Bool)) → x ≡ f 0 → y ≡ f 1 →
-      kept k rows met (extended b x) (extended b y) ≡ extended b (f (mark k (cost_kept k rows met (extended b x)) (cost_kept k rows met (extended b y))))
+      kept k rows met (extended b x) (extended b y) ≡ extended b (f (bit_of (second_kept k (cost_kept k rows met (extended b x)) (cost_kept k rows met (extended b y)))))
   mark_kept b f None None e g = ap (extended b) e
   mark_kept b f None (Some q) e g = ap (extended b) g
   mark_kept b f (Some p) None e g = ap (extended b) e
   mark_kept b f (Some p) (Some q) e g = by_test (k.le (cost_of k rows met (b ∷ p)) (cost_of k rows met (b ∷ q)))
     where
-      by_test : (t : Bool) → cond t (Some (b ∷ p)) (Some (b ∷ q)) ≡ extended b (f (cond t 0 1))
+      by_test : (t : Bool) → cond t (Some (b ∷ p)) (Some (b ∷ q)) ≡ extended b (f (bit_of (not t)))
       by_test true = ap (extended b) e
       by_test false = ap (extended b) g
 
@@ -96,9 +90,9 @@ module _ {C S P : Type 0} (k : Ghosts C S P) (rows : List ℕ) (met : ℕ → Li
       let e : (s + 2 ^ suc m) / 2 ≡ s / 2 + 1 * 2 ^ m = omega (arith, pow-suc 2 m) in
       e ∙ ap (λ n. s / 2 + 1 * 2 ^ n) less
 
-  module _ (lifts : (a : C) → k.lift (k.lay a) ≡ a) (m t : ℕ) (pos : 0 < m) (below : all_below (2 ^ (m + 1)) rows ≡ true)
+  module _ (lifts : (a : C) → k.lift (k.lay a) ≡ a) (m t : ℕ) (pos : 0 < m) (few : m ≤ 4) (below : all_below (2 ^ (m + 1)) rows ≡ true)
       (old : List (Option P)) (spread grown : List C) (cells : Cells k rows met m t old) (each : Spread k old spread)
-      (more : Grown k rows met (2 * 2 ^ m) t spread grown) where
+      (wide : length spread ≡ 2 * 2 ^ m) (more : Grown k rows met t spread grown) where
     -- the cost in a window is that of the survivor of its old register with the window's newest bit
     window_kept : (w : ℕ) → w < 2 * 2 ^ m → window_cost k old grown w ≡ cost_kept k rows met (extended (odd w) (kept_at k rows met m t (w / 2)))
     window_kept w h = by_path (kept_at k rows met m t (w / 2)) refl
@@ -108,11 +102,10 @@ module _ {C S P : Type 0} (k : Ghosts C S P) (rows : List ℕ) (met : ℕ → Li
         by_path (Some p) e =
             let cell : get_or old (w / 2) None ≡ Some (k.lay (cost_of k rows met p)) = cells (w / 2) (omega arith) ∙ ap (laid_cost k rows met) e in
             let start : get_or spread w k.ZERO ≡ cost_of k rows met p = each w (k.lay (cost_of k rows met p)) cell ∙ lifts (cost_of k rows met p) in
-            let wide : m + 1 ≡ suc m = omega arith in
+            let next : m + 1 ≡ suc m = omega arith in
             ap (λ x. arrived x (get_or grown w k.ZERO)) cell
-            ∙ ap Some (more (suc m) w h (omega (arith, pow-suc 2 m))
-            ∙ ap (λ c. grown_rows k rows met c (bits (suc m) w) (length rows * t) rows) start
-            ∙ window_grown m t w p (ap (λ n. all_below (2 ^ n) rows) (sym wide) ∙ below) e)
+            ∙ ap Some (more w (omega arith) ∙ ap (λ c. grown_rows k rows met c (bits 8 w) (length rows * t) rows) start
+            ∙ window_grown m t w p (omega arith) (ap (λ n. all_below (2 ^ n) rows) (sym next) ∙ below) e)
 
     -- of the two windows of register s the first dropped a 0
     window_first : (s : ℕ) → s < 2 ^ m → window_cost k old grown s ≡ cost_kept k rows met (extended (odd s) (dropping m t s 0))
@@ -137,13 +130,13 @@ module _ {C S P : Type 0} (k : Ghosts C S P) (rows : List ℕ) (met : ℕ → Li
           ∙ ap (laid k) (cost_of_kept a b) ∙ laid_kept (kept k rows met a b) ∙ ap (laid_cost k rows met) (sym (kept_next m t s pos h))
 
       -- and their marks are those of the paths kept
-      pub marks_next : (paths : List ℕ) → MarkedLower k old grown (t * 2 ^ m) paths → (s : ℕ) → s < 2 ^ m → Marked m (kept_at k rows met m) paths t s
-      marks_next paths marks s h =
+      pub marks_next : (marks : List ℕ) → MarkedLower k old grown marks → (s : ℕ) → s < 2 ^ m → Marked m (kept_at k rows met m) (get_or marks s 0) t s
+      marks_next marks lower s h =
           let a = cost_kept k rows met (extended (odd s) (dropping m t s 0)) in
           let b = cost_kept k rows met (extended (odd s) (dropping m t s 1)) in
-          let here : get_or paths (t * 2 ^ m + s) 0 ≡ mark k a b =
-          marks s (omega arith) ∙ ap₂ (mark k) (window_first s h) (ap (λ n. window_cost k old grown (s + n)) long ∙ window_second s h) in
+          let here : get_or marks s 0 ≡ bit_of (second_kept k a b) =
+          lower s (omega arith) ∙ ap₂ (λ x y. bit_of (second_kept k x y)) (window_first s h) (ap (λ n. window_cost k old grown (s + n)) long ∙ window_second s h) in
           record {
-            bit = omega (arith, mark_bit a b, here);
+            bit = omega (arith, bit_below (second_kept k a b), here);
             from = kept_next m t s pos h ∙ mark_kept (odd s) (dropping m t s) (dropping m t s 0) (dropping m t s 1) refl refl ∙ ap (λ v. extended (odd s) (dropping m t s v)) (sym here);
           }

@@ -1,44 +1,29 @@
 -- Sums over taps, by the numbers that hold the taps and the window.
-use Rattle.std.proofs.Common.{◌≡◌, ℕ, zero, suc, ◌+◌, ◌-◌, ◌*◌, ◌/◌, ◌%◌, ◌^◌, ◌<◌, ◌≤◌, min, Bool, true, false, ◌&&◌, List, [], ◌∷◌, length, get_or, sym, refl, ap, ◌∙◌, subst, ap₂, mod-eq_of_lt, arith, pow_mono}
+use Rattle.std.proofs.Common.{◌≡◌, ℕ, zero, suc, ◌+◌, ◌-◌, ◌*◌, ◌/◌, ◌%◌, ◌^◌, ◌<◌, ◌≤◌, eqb, Bool, true, false, ◌&&◌, List, [], ◌∷◌, length, get_or, sym, refl, ap, ◌∙◌, subst, ap₂, mod-eq_of_lt, arith, pow_mono}
 use lib.Bits.{bit_and, bit_or, and_step, and_zero_l, or_shifted}
 use lib.Count.{ones, ones_step}
 use mir.Val.{bool_byte}
 use Rattle.std.proofs.lemmas.Nat.{div-mul-add, mod-mul-add, pow-add}
 use Rattle.std.proofs.lemmas.List.{get_or_past}
-use Rattle.trellis.specs.Bits.{odd, xor, bit_of}
+use Rattle.trellis.specs.Bits.{odd, bit_of, bits}
 use Rattle.trellis.specs.Codes.{summed}
 use Rattle.trellis.specs.Coding.{packed, entered}
 use Rattle.trellis.specs.Paths.{register}
 use Rattle.trellis.proofs.Bitwise.{bit_below, bit_of_odd, byte_bit, half_below, min_bits, odd_add, ones_none}
-use Rattle.trellis.proofs.Registers.{summed_none}
+use Rattle.trellis.proofs.Registers.{register_length, summed_register}
 
--- the newest bit of a window against the newest tap, and the rest
-chosen_step :
-    (b : Bool) (r : List Bool) (taps : ℕ) → odd (ones (bit_and (packed (b ∷ r)) taps)) ≡ xor (odd taps && b) (odd (ones (bit_and (packed r) (taps / 2))))
-chosen_step b r taps =
-    let n = bit_and (packed r) (taps / 2) in
-    let d = odd taps && b in
-    let low : min (packed (b ∷ r) % 2) (taps % 2) ≡ bit_of d = ap₂ min (mod-mul-add (packed r) 2 (bit_of b) (bit_below b)) (sym (bit_of_odd taps)) ∙ min_bits b (odd taps) in
-    let high : bit_and (packed (b ∷ r) / 2) (taps / 2) ≡ n = ap (λ x. bit_and x (taps / 2)) (div-mul-add (packed r) 2 (bit_of b) (bit_below b)) in
-    let split : bit_and (packed (b ∷ r)) taps ≡ n * 2 + bit_of d = and_step (packed (b ∷ r)) taps ∙ ap₂ (λ (x y : ℕ). x * 2 + y) high low in
-    let count : ones (n * 2 + bit_of d) ≡ bit_of d + ones n
-    = ones_step (n * 2 + bit_of d) ∙ ap₂ (λ (x y : ℕ). x + ones y) (mod-mul-add n 2 (bit_of d) (bit_below d)) (div-mul-add n 2 (bit_of d) (bit_below d)) in
-    ap (λ x. odd (ones x)) split ∙ ap odd count ∙ odd_add d (ones n)
-
--- what meets no bit sums to 0
-xor_false : (t : Bool) → xor (t && false) false ≡ false
-xor_false true = refl
-xor_false false = refl
-
--- a row's sum is the parity of the ones that its taps choose in the window of the newest bits
-pub summed_chosen : (m taps : ℕ) (p : List Bool) → taps < 2 ^ m → summed taps p ≡ odd (ones (bit_and (packed (register m p)) taps))
-summed_chosen zero taps p h =
-    let e : taps ≡ 0 = omega arith in
-    ap (λ n. summed n p) e ∙ summed_none p ∙ sym (ap odd (ap ones (and_zero_l taps) ∙ ones_none))
-summed_chosen (suc m) taps [] h =
-    sym (chosen_step false (register m []) taps ∙ ap (xor (odd taps && false)) (sym (summed_chosen m (taps / 2) [] (half_below m taps h))) ∙ xor_false (odd taps))
-summed_chosen (suc m) taps (b ∷ p) h =
-    ap (xor (odd taps && b)) (summed_chosen m (taps / 2) p (half_below m taps h)) ∙ sym (chosen_step b (register m p) taps)
+-- the number that bits write has those bits
+bits_packed : (r : List Bool) → bits (length r) (packed r) ≡ r
+bits_packed [] = refl
+bits_packed (b ∷ r) =
+    let v = packed (b ∷ r) in
+    let low : odd v ≡ b = ap (λ n. eqb n 1) (mod-mul-add (packed r) 2 (bit_of b) (bit_below b)) ∙ odd_bit b in
+    let high : v / 2 ≡ packed r = div-mul-add (packed r) 2 (bit_of b) (bit_below b) in
+    ap₂ (λ (x : Bool) (xs : List Bool). x ∷ xs) low (ap (bits (length r)) high ∙ bits_packed r)
+  where
+    odd_bit : (b : Bool) → eqb (bit_of b) 1 ≡ b
+    odd_bit true = refl
+    odd_bit false = refl
 
 -- bits write a number below the power of their count
 packed_below : (r : List Bool) → packed r < 2 ^ length r
@@ -49,6 +34,16 @@ packed_below (b ∷ r) =
     let double = pow-add 2 (length r) 1 in
     let on : suc (length r) ≡ length r + 1 = omega arith in
     subst (λ n. packed (b ∷ r) < 2 ^ n) (sym on) (omega (arith, double))
+
+-- the window of the 8 newest bits is a byte
+pub window_below : (p : List Bool) → packed (register 8 p) < 2 ^ 8
+window_below p = subst (λ n. packed (register 8 p) < 2 ^ n) (register_length 8 p) (packed_below (register 8 p))
+
+-- a row that taps none but them sums that byte's bits
+pub window_summed : (taps : ℕ) (p : List Bool) → taps < 2 ^ 8 → summed taps (bits 8 (packed (register 8 p))) ≡ summed taps p
+window_summed taps p h =
+    let same : bits 8 (packed (register 8 p)) ≡ register 8 p = subst (λ n. bits n (packed (register 8 p)) ≡ register 8 p) (register_length 8 p) (bits_packed (register 8 p)) in
+    ap (summed taps) same ∙ sym (summed_register 8 taps p h)
 
 -- a byte of at most 7 bits takes one bit more at its low end
 pub packed_shift : (v : ℕ) (b : Bool) (r : List Bool) → v ≡ packed r → length r ≤ 7 → bit_or (v * 2 % 256) (bool_byte b) ≡ packed (b ∷ r)

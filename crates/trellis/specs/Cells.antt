@@ -5,11 +5,16 @@ use Rattle.trellis.specs.Bits.{odd, bits}
 use Rattle.trellis.specs.Paths.{cost_of}
 use Rattle.trellis.specs.Rule.{extended, survivor}
 
--- a path record of `memory` bits wide rows: the mark of register s in row t tells which oldest bit the path that s kept has dropped,
+-- the mark of register s in row t tells which oldest bit the path that s kept has dropped,
 -- where `kept t s` is the path that register s keeps after t steps
-pub record Marked (memory : ℕ) (kept : ℕ → ℕ → Option (List Bool)) (paths : List ℕ) (t s : ℕ) : Type 0 where
-  pub bit : get_or paths (t * 2 ^ memory + s) 0 ≤ 1
-  pub from : kept (suc t) s ≡ extended (odd s) (kept t (s / 2 + slice_index paths (t * 2 ^ memory + s) * 2 ^ (memory - 1)))
+pub record Marked (memory : ℕ) (kept : ℕ → ℕ → Option (List Bool)) (mark t s : ℕ) : Type 0 where
+  pub bit : mark ≤ 1
+  pub from : kept (suc t) s ≡ extended (odd s) (kept t (s / 2 + mark * 2 ^ (memory - 1)))
+
+-- every mark is right in the first so many rows of a path record, a row being 2 ^ memory wide
+abbrev pub MarkedBelow : ℕ → (ℕ → ℕ → Option (List Bool)) → List ℕ → ℕ → Type 0
+MarkedBelow memory kept paths rows =
+    (t s : ℕ) → t < rows → s < 2 ^ memory → Marked memory kept (slice_index paths (t * 2 ^ memory + s)) t s
 
 module _ {C S P : Type 0} (k : Ghosts C S P) (rows : List ℕ) (met : ℕ → List (S × Bool)) where
   -- the path that a register keeps, the register being a number

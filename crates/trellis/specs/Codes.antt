@@ -1,5 +1,6 @@
 -- Convolutional codes: the sum of a row, and which codes are sound.
 use Rattle.std.specs.Prelude.{ℕ, ◌+◌, ◌/◌, ◌^◌, Bool, true, false, ◌&&◌, List, [], ◌∷◌, take, nat_le, nat_lt, slice_index}
+use Rattle.std.specs.List.{list_all}
 use Rattle.trellis.specs.Bits.{odd, xor}
 use Rattle.trellis.specs.declared.code.Code.{Code}
 
@@ -12,8 +13,7 @@ abbrev pub rows_of : Code → List ℕ
 rows_of c = take c.rows c.taps
 
 abbrev pub all_below : ℕ → List ℕ → Bool
-all_below n [] = true
-all_below n (x ∷ xs) = nat_lt x n && all_below n xs
+all_below n = list_all (λ x. nat_lt x n)
 
 -- 1 to 5 rows, a memory of 1 to 4 bits, no tap older than the memory, and the newest bit in the first row
 abbrev pub sound : Code → Bool

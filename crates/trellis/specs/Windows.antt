@@ -1,19 +1,15 @@
 -- Windows: a register with the newest bit, as a number whose lowest bit is the newest.
 -- Window w comes from register w / 2, and windows s and s + 2 ^ memory meet in register s.
-use Rattle.std.specs.Prelude.{◌≡◌, ℕ, ◌+◌, ◌*◌, ◌/◌, ◌^◌, ◌<◌, Bool, false, cond, List, length, Some, None, Option, ◌==◌, ◌≢◌, slice_index, slice_index_or}
+use Rattle.std.specs.Prelude.{◌≡◌, ℕ, ◌+◌, ◌*◌, ◌/◌, ◌^◌, ◌<◌, Bool, true, false, not, cond, List, [], length, Some, None, Option, ◌==◌, ◌≢◌, slice_index, slice_index_or}
 use Rattle.cost.specs.declared.kind.Cost.{Ghosts}
-use Rattle.trellis.specs.Bits.{bits}
+use Rattle.trellis.specs.Bits.{bit_of, bits}
 use Rattle.trellis.specs.Codes.{summed}
 use Rattle.trellis.specs.Paths.{grown_rows}
 
--- a table has the coded bit of row i at window w in entry 32 * i + w
-abbrev pub Coded : List ℕ → List Bool → Type 0
+-- a table has for each row the coded bit at each window
+abbrev pub Coded : List ℕ → List (List Bool) → Type 0
 Coded rows table =
-    (n i w : ℕ) → i < length rows → w < 32 → w < 2 ^ n → slice_index_or table (32 * i + w) false ≡ summed (slice_index rows i) (bits n w)
-
--- two path records agree in the first n marks
-abbrev pub SameBelow : ℕ → List ℕ → List ℕ → Type 0
-SameBelow n before after = (j : ℕ) → j < n → slice_index after j ≡ slice_index before j
+    (i w : ℕ) → i < length rows → w < 32 → slice_index_or (slice_index_or table i []) w false ≡ summed (slice_index rows i) (bits 8 w)
 
 -- every register was reached
 abbrev pub Whole : {P : Type 0} → List (Option P) → Type 0
@@ -39,12 +35,12 @@ module _ {C S P : Type 0} (k : Ghosts C S P) where
   lower (Some a) None = Some a
   lower (Some a) (Some b) = cond (k.le a b) (Some a) (Some b)
 
-  -- 1 where the second of two costs that meet is kept
-  abbrev pub mark : Option C → Option C → ℕ
-  mark None None = 0
-  mark None (Some b) = 1
-  mark (Some a) None = 0
-  mark (Some a) (Some b) = cond (k.le a b) 0 1
+  -- whether the second of two costs that meet is kept
+  abbrev pub second_kept : Option C → Option C → Bool
+  second_kept None None = false
+  second_kept None (Some b) = true
+  second_kept (Some a) None = false
+  second_kept (Some a) (Some b) = not (k.le a b)
 
   -- a cost laid down
   abbrev pub laid : Option C → Option P
@@ -65,23 +61,24 @@ module _ {C S P : Type 0} (k : Ghosts C S P) where
   Chosen n costs chosen =
       (s : ℕ) → s < n → slice_index_or chosen s k.ZERO ≡ cond (k.le (slice_index_or costs s k.ZERO) (slice_index_or costs (s + n) k.ZERO)) (slice_index_or costs s k.ZERO) (slice_index_or costs (s + n) k.ZERO)
 
-  -- and the path record tells, from `row` on, which of the two it was
-  abbrev pub ChosenMarks : ℕ → List C → ℕ → List ℕ → Type 0
-  ChosenMarks n costs row paths = (s : ℕ) → s < n → slice_index paths (row + s) ≡ cond (k.le (slice_index_or costs s k.ZERO) (slice_index_or costs (s + n) k.ZERO)) 0 1
+  -- and the row of marks tells which of the two it was
+  abbrev pub ChosenMarks : ℕ → List C → List ℕ → Type 0
+  ChosenMarks n costs marks =
+      (s : ℕ) → s < n → slice_index marks s ≡ bit_of (not (k.le (slice_index_or costs s k.ZERO) (slice_index_or costs (s + n) k.ZERO)))
 
   -- each register keeps the lower of its two windows, laid down
   abbrev pub LaidLower : List (Option P) → List C → List (Option P) → Type 0
   LaidLower old costs new =
       (s : ℕ) → s < length old → slice_index_or new s None ≡ laid (lower (window_cost old costs s) (window_cost old costs (s + length old)))
 
-  -- the path record tells, from `row` on, which of its two windows each register keeps
-  abbrev pub MarkedLower : List (Option P) → List C → ℕ → List ℕ → Type 0
-  MarkedLower old costs row paths =
-      (s : ℕ) → s < length old → slice_index paths (row + s) ≡ mark (window_cost old costs s) (window_cost old costs (s + length old))
+  -- the row of marks tells which of its two windows each register keeps
+  abbrev pub MarkedLower : List (Option P) → List C → List ℕ → Type 0
+  MarkedLower old costs marks =
+      (s : ℕ) → s < length old → slice_index marks s ≡ bit_of (second_kept (window_cost old costs s) (window_cost old costs (s + length old)))
 
   module _ (rows : List ℕ) (met : ℕ → List (S × Bool)) where
-    -- each of so many windows is grown by the coded bits of step t
-    abbrev pub Grown : ℕ → ℕ → List C → List C → Type 0
-    Grown windows t costs grown =
-        (n w : ℕ) → w < windows → w < 2 ^ n →
-        slice_index_or grown w k.ZERO ≡ grown_rows k rows met (slice_index_or costs w k.ZERO) (bits n w) (length rows * t) rows
+    -- each window is grown by the coded bits of step t
+    abbrev pub Grown : ℕ → List C → List C → Type 0
+    Grown t costs grown =
+        (w : ℕ) → w < length costs →
+        slice_index_or grown w k.ZERO ≡ grown_rows k rows met (slice_index_or costs w k.ZERO) (bits 8 w) (length rows * t) rows

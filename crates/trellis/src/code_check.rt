@@ -22,11 +22,6 @@ impl Code {
         ensures { result ≡ all_below (2 ^ (self.now.memory + 1)) (rows_of self.now) }
     {
         let past = 1 << (self.memory + 1);
-        for i in 0..self.rows {
-            if self.taps[i] >= past {
-                return false;
-            }
-        }
-        true
+        self.taps[..self.rows].iter().all(|taps| *taps < past)
     }
 }

@@ -5,6 +5,7 @@ ghost use Rattle.trellis.specs.Coding.{entered, coded_bit, packed};
 ghost use Rattle.trellis.specs.Paths.{register};
 
 use crate::code::Code;
+use crate::windows::row_bit;
 
 impl Code {
     // The coded bit at a place, zeros entering after the end of the run.
@@ -14,12 +15,9 @@ impl Code {
         if self.rows == 0 {
             return false;
         }
-        let row = place % self.rows;
-        if row >= 5 {
-            return false;
-        }
         let newest = place / self.rows;
-        (window(run, newest) & self.taps[row]).count_ones() % 2 == 1
+        let taps = self.taps.get(place % self.rows);
+        taps.is_some_and(|taps| row_bit(window(run, newest), *taps))
     }
 }
 
@@ -38,8 +36,7 @@ fn window(run: &[u8], newest: usize) -> u8
 fn aged(run: &[u8], newest: usize, age: usize) -> bool
     ensures { result ≡ slice_index_or (entered (map odd run.now) newest) age false }
 {
-    if age > newest || newest - age >= run.len() {
-        return false;
-    }
-    run[newest - age] & 1 == 1
+    let place = newest.checked_sub(age);
+    let byte = place.and_then(|place| run.get(place));
+    byte.is_some_and(|byte| *byte & 1 == 1)
 }

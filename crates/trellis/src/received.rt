@@ -1,6 +1,8 @@
 // What the coded bits of one block meet: nothing where a bit is not sent, else a sample and whether the bit was turned over.
 ghost use Rattle.std.specs.Prelude.{◌≡◌, ℕ, Bool, List};
-ghost use Rattle.trellis.specs.Met.{listed};
+ghost use Rattle.trellis.specs.Met.{listed, weighed};
+
+use cost::kind::Cost;
 
 pub trait Received {
     type Sample: Copy;
@@ -9,4 +11,15 @@ pub trait Received {
 
     fn met_at(&self, j: usize) -> Option<(Self::Sample, bool)>
         ensures { listed result ≡ met self.now j };
+}
+
+// An unfit sample is read as nothing.
+pub fn weighed<C: Cost>(sample: C::Sample) -> C::Sample
+    ensures { result ≡ weighed C.Cost sample }
+{
+    if C::is_fit(sample) {
+        sample
+    } else {
+        C::NOTHING
+    }
 }

@@ -1,26 +1,65 @@
-// Windows: a register with the newest bit, window = 2 * register + bit, and the coded bits that each sends.
-ghost use Rattle.std.specs.Prelude.{◌≡◌, ℕ, ◌^◌, ◌<◌, ◌≤◌};
+// The trellis of a sound code. A window is a register with the newest bit, window = 2 * register + bit.
+ghost use Rattle.std.specs.Prelude.{◌≡◌, ℕ, ◌^◌, ◌<◌, true, false, MatchOption, slice_index_or};
 ghost use Rattle.trellis.specs.Bits.{bits};
-ghost use Rattle.trellis.specs.Codes.{summed, rows_of};
+ghost use Rattle.trellis.specs.Codes.{summed, rows_of, sound};
 ghost use Rattle.trellis.specs.Windows.{Coded};
 
 use crate::code::Code;
 
-// The window's bits that the taps select, summed modulo 2.
-fn row_bit(window: usize, taps: u8) -> bool
-    ensures { (n : ℕ) → window < 2 ^ n → result ≡ summed taps (bits n window) }
-{
-    (window & taps as usize).count_ones() % 2 == 1
+// A sound code, and the coded bit that each of its rows sends at each window.
+#[derive(Drop)]
+pub(crate) struct Trellis {
+    pub(crate) code: Code,
+    pub(crate) table: [[bool; 32]; 5],
+    ghost checked: { sound code ≡ true },
+    ghost coded: { Coded (rows_of code) table },
 }
 
-// The coded bit of each row at each of 32 windows: row i at window w stands in entry 32 * i + w.
-pub(crate) fn coded_bits(code: &Code) -> [bool; 160]
-    requires { code.now.rows ≤ 5 }
+// The window's bits that the taps select, summed modulo 2.
+pub(crate) fn row_bit(window: u8, taps: u8) -> bool
+    ensures { result ≡ summed taps (bits 8 window) }
+{
+    (window & taps).count_ones() % 2 == 1
+}
+
+// The bit that a row of taps sends at each window.
+fn row_bits(taps: u8) -> [bool; 32]
+    ensures { (w : ℕ) → w < 32 → slice_index_or result w false ≡ summed taps (bits 8 w) }
+{
+    let mut bits = [false; 32];
+    for (window, bit) in bits.iter_mut().enumerate() {
+        *bit = row_bit(window as u8, taps);
+    }
+    bits
+}
+
+// The bit that each row of a code sends at each window.
+fn coded_bits(code: &Code) -> [[bool; 32]; 5]
     ensures { Coded (rows_of code.now) result }
 {
-    let mut table = [false; 160];
-    for e in 0..32 * code.rows {
-        table[e] = row_bit(e % 32, code.taps[e / 32]);
+    let mut table = [[false; 32]; 5];
+    for (i, bits) in table.iter_mut().enumerate() {
+        *bits = row_bits(code.taps[i]);
     }
     table
+}
+
+impl Trellis {
+    pub(crate) fn new(code: &Code) -> Option<Trellis>
+        ensures { MatchOption result (sound code.now ≡ false) (λ t. (sound code.now ≡ true) × (t.code ≡ code.now)) }
+    {
+        if !code.is_sound() {
+            return None;
+        }
+        Some(Trellis {
+            code: *code,
+            table: coded_bits(code),
+        })
+    }
+
+    pub(crate) fn registers(&self) -> usize
+        ensures { result ≡ 2 ^ self.now.code.memory }
+    {
+        1 << self.code.memory
+    }
 }

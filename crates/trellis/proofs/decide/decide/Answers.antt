@@ -1,24 +1,31 @@
-use Rattle.std.proofs.Common.{◌≡◌, ◌-◌, ◌*◌, ◌^◌, ◌≤◌, length, sym, ap, arith}
+use Rattle.std.proofs.Common.{◌≡◌, ◌*◌, ◌^◌, ◌≤◌, true, ◌&&◌, length, sym, ap, ◌∙◌, subst, ap₂, arith}
 use Rattle.std.proofs.lemmas.List.{length-take}
 use Rattle.std.proofs.lemmas.Bool.{both_ways}
 use Rattle.trellis.specs.Codes.{rows_of}
+use Rattle.trellis.specs.Decoding.{Answered, has_room, ready}
 use Rattle.trellis.specs.Met.{read}
-use Rattle.trellis.proofs.Answering.{answered_longer, ready_paths, steps_within}
+use Rattle.trellis.proofs.Answering.{answered_longer, room_paths, steps_within}
 use Rattle.trellis.proofs.decide.decide.Goals as goal
 
 pub returns : goal.returns
 returns g c =
+    let k = g.C.Cost in
     let code = c.args.code.now in
     let m = code.memory in
+    let met = read k (g.H.Received.met c.args.heard.now) in
     let steps = c.args.steps in
     let cells = length c.args.cells.now in
     let paths = c.args.paths.now in
-    let part : steps * c.registers-registers.result ≡ steps * 2 ^ m = ap (λ n. steps * n) c.registers-registers.ensures in
-    let whole = ready_paths code steps cells (length paths) (sym c.if-not-is_ready.ensures) in
-    let room : steps ≤ length c.answer.new.paths =
-    omega (arith, c.answer.auto.paths, length-take (steps * c.registers-registers.result - 0) paths, part, whole, steps_within m steps) in
+    let made = c.in_ok-trellis.ensures in
+    let room : has_room code steps cells (length paths) ≡ true =
+    ap (λ own. has_room own steps cells (length paths)) (sym made.1) ∙ sym c.if-not-has_room.ensures in
+    let can : ready code steps cells (length paths) ≡ true = ap₂ (λ a b. a && b) made.0 room in
+    let wide : c.registers-registers.result ≡ 2 ^ m = c.registers-registers.ensures ∙ ap (λ own. 2 ^ own.memory) made.1 in
+    let part : steps * c.registers-registers.result ≡ steps * 2 ^ m = ap (λ n. steps * n) wide in
+    let long : steps ≤ length c.answer.new.paths =
+    omega (arith, c.answer.auto.paths, length-take (steps * c.registers-registers.result) paths, part, room_paths code steps cells (length paths) room, steps_within m steps) in
+    let answered = subst (λ own. Answered k (rows_of own) met own.memory steps c.answer.result c.answer.new.paths) made.1 c.answer.ensures in
     record {
-      decided = λ _. answered_longer g.C.Cost (rows_of code) (read g.C.Cost (g.H.Received.met c.args.heard.now)) m steps
-          c.answer.result c.answer.new.paths _ room c.answer.ensures;
-      refused = λ e. absurd (both_ways _ e (sym c.if-not-is_ready.ensures));
+      decided = λ _. answered_longer k (rows_of code) met m steps c.answer.result c.answer.new.paths _ long answered;
+      refused = λ e. absurd (both_ways _ e can);
     }

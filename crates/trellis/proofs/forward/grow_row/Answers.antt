@@ -1,4 +1,4 @@
-use Rattle.std.proofs.Common.{◌≡◌, ◌+◌, ◌<◌, Bool, true, false, not, ◌≢◌, length, get_or, refl, ◌∙◌, ap₂, arith, get_or-set_other, get_or-set_same, below_more}
+use Rattle.std.proofs.Common.{◌≡◌, ◌+◌, ◌<◌, Bool, true, false, not, ◌≢◌, length, get_or, sym, refl, ◌∙◌, ap₂, arith, get_or-set_other, get_or-set_same, below_more}
 use mathlib.Core.Bool.{beq}
 use Rattle.std.proofs.lemmas.List.{get_or_read}
 use Rattle.trellis.specs.Bits.{xor}
@@ -17,13 +17,12 @@ loop-w-preserved g c =
     let w = c.loop-w.w in
     let costs = c.loop-w.costs in
     let grown = c.grown.result in
-    let s = c.args.sample in
-    let bit = get_or c.args.table.now (c.args.start + w) false in
+    let bit = get_or c.args.bits.now w false in
     let within : w < length costs = omega arith in
-    let here : c.index-costs-w.result ≡ get_or c.args.costs.now w k.ZERO =
-    get_or_read costs w c.index-costs-w.result within c.index-costs-w.is k.ZERO ∙ c.loop-w.invariant.1 w (omega arith) in (
+    let here : get_or costs w c.index-costs-w.result ≡ get_or c.args.costs.now w k.ZERO =
+    sym c.index-costs-w.is ∙ get_or_read costs w c.index-costs-w.result within c.index-costs-w.is k.ZERO ∙ c.loop-w.invariant.1 w (omega arith) in (
       below_more _ _
           (λ v h. let ne : v ≢ w = omega arith in get_or-set_other costs w v grown k.ZERO ne ∙ c.loop-w.invariant.0 v h)
-          (get_or-set_same costs w grown k.ZERO within ∙ c.grown.ensures ∙ ap₂ (λ a x. k.grow a s x) here (differ_xor bit c.args.turned)),
+          (get_or-set_same costs w grown k.ZERO within ∙ c.grown.ensures ∙ ap₂ (λ a x. k.grow a c.args.sample x) here (differ_xor bit c.args.turned)),
       λ v h. let ne : v ≢ w = omega arith in get_or-set_other costs w v grown k.ZERO ne ∙ c.loop-w.invariant.1 v (omega arith),
     )

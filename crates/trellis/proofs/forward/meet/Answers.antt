@@ -1,6 +1,7 @@
 use Rattle.std.proofs.Common.{◌≡◌, ℕ, ◌+◌, ◌/◌, ◌<◌, Bool, true, false, cond, length, get_or, Some, None, Option, sym, refl, ap, ◌∙◌, ap₂, arith}
 use Rattle.cost.specs.declared.kind.Cost.{Ghosts}
-use Rattle.trellis.specs.Windows.{arrived, laid, lower, mark}
+use Rattle.trellis.specs.Bits.{bit_of}
+use Rattle.trellis.specs.Windows.{arrived, laid, lower, second_kept}
 use Rattle.trellis.proofs.forward.meet.Goals as goal
 
 -- a window whose register was reached has a cost
@@ -22,11 +23,15 @@ returns-then-whole g c =
     let old = c.args.old.now in
     let costs = c.args.costs.now in
     let n = length old in
+    let m = length c.args.marks.now in
+    let same : m ≡ n = c.requires.room.1.1 in
     let reached = λ (w : ℕ) (h : w / 2 < n). arrived_some (get_or old (w / 2) None) (get_or costs w k.ZERO) (c.requires.whole c.if-whole.true (w / 2) h) in
     record {
-      cells = λ s h. c.lay_down.ensures s (omega arith) ∙ ap (λ x. Some (k.lay x)) (c.choose.ensures.kept s h)
-          ∙ laid_lower k (get_or costs s k.ZERO) (get_or costs (s + n) k.ZERO)
+      cells = λ s h. c.lay_down.ensures s (omega arith) ∙ ap (λ x. Some (k.lay x)) (c.choose.ensures.kept s (omega arith))
+          ∙ laid_lower k (get_or costs s k.ZERO) (get_or costs (s + m) k.ZERO)
+          ∙ ap (λ x. laid k (lower k (Some (get_or costs s k.ZERO)) (Some (get_or costs (s + x) k.ZERO)))) same
           ∙ sym (ap₂ (λ x y. laid k (lower k x y)) (reached s (omega arith)) (reached (s + n) (omega arith)));
-      marks = λ s h. c.choose.ensures.marks s h ∙ sym (ap₂ (mark k) (reached s (omega arith)) (reached (s + n) (omega arith)));
-      below = c.choose.ensures.below;
+      marks = λ s h. c.choose.ensures.marks s (omega arith)
+          ∙ ap (λ x. bit_of (second_kept k (Some (get_or costs s k.ZERO)) (Some (get_or costs (s + x) k.ZERO)))) same
+          ∙ sym (ap₂ (λ x y. bit_of (second_kept k x y)) (reached s (omega arith)) (reached (s + n) (omega arith)));
     }

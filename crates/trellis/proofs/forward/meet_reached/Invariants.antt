@@ -1,5 +1,6 @@
 use Rattle.std.proofs.Common.{◌≡◌, ℕ, ◌+◌, ◌<◌, length, get_or, None}
-use Rattle.trellis.specs.Windows.{SameBelow, laid, lower, mark, window_cost}
+use Rattle.trellis.specs.Bits.{bit_of}
+use Rattle.trellis.specs.Windows.{laid, lower, second_kept, window_cost}
 use Rattle.trellis.proofs.forward.meet_reached.Given as goal
 
 -- the registers below s have met
@@ -9,5 +10,4 @@ invariant-loop-s g l =
     let first = λ (v : ℕ). window_cost k l.old l.costs v in
     let second = λ (v : ℕ). window_cost k l.old l.costs (v + length l.old) in
     ((v : ℕ) → v < l.s → get_or l.new v None ≡ laid k (lower k (first v) (second v)))
-    × ((v : ℕ) → v < l.s → get_or l.paths (l.row + v) 0 ≡ mark k (first v) (second v))
-    × SameBelow l.row l.initial.paths l.paths
+    × ((v : ℕ) → v < l.s → get_or l.marks v 0 ≡ bit_of (second_kept k (first v) (second v)))

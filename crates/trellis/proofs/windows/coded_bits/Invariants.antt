@@ -1,7 +1,10 @@
-use Rattle.std.proofs.Common.{◌≡◌, ℕ, ◌/◌, ◌%◌, ◌^◌, ◌<◌, false, length, get_or}
+use Rattle.std.proofs.Common.{◌≡◌, ℕ, ◌<◌, [], false, length, get_or}
 use Rattle.trellis.specs.Bits.{bits}
 use Rattle.trellis.specs.Codes.{summed}
 use Rattle.trellis.proofs.windows.coded_bits.Given as goal
 
-abbrev pub invariant-loop-e : goal.invariant-loop-e
-invariant-loop-e l = (length l.table ≡ 160) × ((k : ℕ) → k < l.e → (n : ℕ) → k % 32 < 2 ^ n → get_or l.table k false ≡ summed (get_or l.code.taps (k / 32) 0) (bits n (k % 32)))
+-- the rows below i have their bits
+abbrev pub invariant-loop-i : goal.invariant-loop-i
+invariant-loop-i l =
+    (length l.bits-items ≡ 5)
+    × ((j : ℕ) → j < l.i → (w : ℕ) → w < 32 → get_or (get_or l.bits-items j []) w false ≡ summed (get_or l.code.taps j 0) (bits 8 w))

@@ -4,16 +4,17 @@ use Rattle.trellis.specs.Met.{read}
 use Rattle.trellis.proofs.Answering.{answers}
 use Rattle.trellis.proofs.Reading.{read_fit}
 use Rattle.trellis.proofs.Soundness.{sound_parts}
-use Rattle.trellis.proofs.decide.answer.Goals as goal
+use Rattle.trellis.proofs.windows.Trellis.answer.Goals as goal
 
 pub traceback-requires : goal.traceback-requires
 traceback-requires g c =
-    let parts = sound_parts c.args.code.now c.requires.sound in
+    let parts = sound_parts c.args.self.now.code c.args.self.now.checked in
     record { memory = (parts.some_memory, parts.memory_few); steps = c.requires.steps.1; whole = omega arith }
 
 pub returns : goal.returns
 returns g c =
     let laws = laws_of g.met.C.Cost in
     let met = g.H.Received.met c.args.heard.now in
-    answers laws c.args.code.now (read g.C.Cost met) (read_fit laws met) c.requires.sound c.args.steps c.requires.steps.0
+    let trellis = c.args.self.now in
+    answers laws trellis.code (read g.C.Cost met) (read_fit laws met) trellis.checked c.args.steps c.requires.steps.0
     c.forward-cost.result c.forward-cost.new.paths c.traceback.new.paths c.forward-cost.ensures.value c.forward-cost.ensures.marks c.traceback.ensures
