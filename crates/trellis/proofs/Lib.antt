@@ -8,7 +8,6 @@ pub mod Passing
 pub mod Reading
 pub mod Records
 pub mod Registers
-pub mod Rows
 pub mod Soundness
 pub mod Stepping
 pub mod Survivors

@@ -13,7 +13,7 @@ none_some : {X : Type 0} {x : X} → None ≡ Some x → ⊥
 none_some e = let z : ◌≡◌ {A = ℕ} 0 1 = cc in omega arith
 
 -- an extended path is a path and its new bit
-extended_from : (b : Bool) (o : Option (List Bool)) (p : List Bool) → extended b o ≡ Some p → (q : List Bool) × (o ≡ Some q) × (p ≡ b ∷ q)
+pub extended_from : (b : Bool) (o : Option (List Bool)) (p : List Bool) → extended b o ≡ Some p → (q : List Bool) × (o ≡ Some q) × (p ≡ b ∷ q)
 extended_from b None p e = absurd (none_some e)
 extended_from b (Some q) p e = (q, refl, cc)
 

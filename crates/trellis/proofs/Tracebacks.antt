@@ -4,6 +4,7 @@ use Rattle.std.proofs.lemmas.List.{drop_more, length-drop, get_or-reverse}
 use Rattle.std.proofs.lemmas.Bool.{cases_eq}
 use Rattle.trellis.specs.Bits.{odd, bit_of}
 use Rattle.trellis.specs.Rule.{extended}
+use Rattle.trellis.proofs.Survivors.{extended_from}
 use Rattle.trellis.specs.Tracing.{Recorded, Headed}
 
 -- how far the way back has come: the register keeps the older bits of the path, and the rows from t on have the newer ones at their heads
@@ -11,11 +12,6 @@ pub record Back (memory steps : ℕ) (kept : ℕ → ℕ → Option (List Bool))
   pub there : kept t register ≡ Some (drop (steps - t) path)
   pub long : steps - t ≤ length path
   pub heads : (i : ℕ) → t ≤ i → i < steps → get_or paths (i * 2 ^ memory) 0 ≡ bit_of (get_or path (steps - 1 - i) false)
-
--- a path with one bit more has that bit first
-extended_some : (b : Bool) (o : Option (List Bool)) (p : List Bool) → extended b o ≡ Some p → (q : List Bool) × (o ≡ Some q) × (p ≡ b ∷ q)
-extended_some b None p e = let z : ◌≡◌ {A = ℕ} 0 1 = cc in absurd (omega arith)
-extended_some b (Some q) p e = let f : p ≡ b ∷ q = cc in (q, refl, f)
 
 -- where a list goes on with an element and a rest, so do its places
 drop_parts : (path : List Bool) (n : ℕ) (b : Bool) (q : List Bool) → drop n path ≡ b ∷ q → (n < length path) × (get_or path n false ≡ b) × (drop (n + 1) path ≡ q)
@@ -37,7 +33,7 @@ module _ (memory steps : ℕ) (kept : ℕ → ℕ → Option (List Bool)) (path 
       let on : suc t ≡ t + 1 = omega arith in
       let marked = recorded.marks t register h k in
       let bit : mark % 2 ≡ mark = mod-eq_of_lt (omega (arith, marked.bit)) in
-      let came = extended_some (odd register) (kept t (register / 2 + mark % 2 * 2 ^ (memory - 1))) (drop (steps - (t + 1)) path)
+      let came = extended_from (odd register) (kept t (register / 2 + mark % 2 * 2 ^ (memory - 1))) (drop (steps - (t + 1)) path)
       (ap (λ n. extended (odd register) (kept t (register / 2 + n * 2 ^ (memory - 1)))) bit ∙ sym marked.from ∙ ap (λ n. kept n register) on ∙ back.there) in
       let parts = drop_parts path (steps - (t + 1)) (odd register) came.0 came.2 in
       let far : steps - (t + 1) + 1 ≡ steps - t = omega arith in

@@ -6,7 +6,6 @@ ghost use Rattle.trellis.specs.Met.{read};
 
 use crate::code::Code;
 use crate::received::Received;
-use crate::traceback::traceback;
 use crate::windows::Trellis;
 use cost::kind::Cost;
 
@@ -38,7 +37,7 @@ impl Trellis {
         ensures { Answered C.Cost (rows_of self.now.code) (read C.Cost (H.Received.met heard.now)) self.now.code.memory steps result paths.new }
     {
         let cost = self.forward::<C, H>(steps, heard, cells, paths);
-        traceback(paths, self.code.memory, steps);
+        self.traceback(steps, paths);
         cost
     }
 }

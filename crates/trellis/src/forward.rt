@@ -211,6 +211,7 @@ impl Trellis {
         let (mut old, mut new) = cells.split_at_mut(registers);
         start::<C>(old);
         for t in 0..steps {
+            // By range, since of `chunks_exact_mut` a proof keeps the lengths alone.
             let marks = &mut paths[t * registers..(t + 1) * registers];
             self.step::<C, H>(t, heard, old, new, marks);
             swap(&mut old, &mut new);

@@ -1,15 +1,8 @@
-use Rattle.std.proofs.Common.{arith}
 use Rattle.cost.proofs.Lawful.{laws_of}
 use Rattle.trellis.specs.Met.{read}
 use Rattle.trellis.proofs.Answering.{answers}
 use Rattle.trellis.proofs.Reading.{read_fit}
-use Rattle.trellis.proofs.Soundness.{sound_parts}
 use Rattle.trellis.proofs.windows.Trellis.answer.Goals as goal
-
-pub traceback-requires : goal.traceback-requires
-traceback-requires g c =
-    let parts = sound_parts c.args.self.now.code c.args.self.now.checked in
-    record { memory = (parts.some_memory, parts.memory_few); steps = c.requires.steps.1; whole = omega arith }
 
 pub returns : goal.returns
 returns g c =

@@ -3,12 +3,12 @@ use lib.ListN.{length-reverse, get_or-map}
 use Rattle.std.proofs.lemmas.List.{length-map}
 use Rattle.trellis.specs.Bits.{bit_of}
 use Rattle.trellis.proofs.Records.{row_after}
-use Rattle.trellis.proofs.traceback.traceback.Goals as goal
+use Rattle.trellis.proofs.windows.Trellis.traceback.Goals as goal
 
 pub returns : goal.returns
 returns c kept path recorded =
     let steps = c.args.steps in
-    let m = c.args.memory in
+    let m = c.args.self.now.code.memory in
     let traced = c.trace.ensures kept path recorded in
     let xs = c.gather.new.paths in
     let room : steps ≤ length xs = omega (arith, row_after steps m) in
