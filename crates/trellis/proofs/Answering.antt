@@ -1,5 +1,5 @@
 -- What the forward pass and the traceback leave is the rule's answer.
-use Rattle.std.proofs.Common.{◌≡◌, ℕ, zero, suc, ◌*◌, ◌^◌, ◌<◌, ◌≤◌, Bool, true, false, ◌&&◌, leb, List, ◌∷◌, ◌++◌, map, reverse, length, take, replicate, Some, Option, refl, ap, ◌∙◌, mul-le-mul_left, mul-one, arith, pow_pos}
+use Rattle.std.proofs.Common.{◌≡◌, ℕ, zero, suc, ◌*◌, ◌^◌, ◌≤◌, Bool, true, false, ◌&&◌, leb, List, ◌∷◌, ◌++◌, map, reverse, length, take, replicate, Some, Option, refl, ap, ◌∙◌, mul-le-mul_left, mul-one, arith, pow_pos}
 use Rattle.std.proofs.lemmas.List.{length-reverse, nil_from_length, take-append-le}
 use Rattle.std.proofs.lemmas.Bool.{and_parts, leb-true}
 use Rattle.cost.specs.declared.kind.Cost.{Ghosts}

@@ -1,7 +1,6 @@
 -- Sums over taps, by the numbers that hold the taps and the window.
-use Rattle.std.proofs.Common.{◌≡◌, ℕ, zero, suc, ◌+◌, ◌-◌, ◌*◌, ◌/◌, ◌%◌, ◌^◌, ◌<◌, ◌≤◌, eqb, Bool, true, false, ◌&&◌, List, [], ◌∷◌, length, get_or, sym, refl, ap, ◌∙◌, subst, ap₂, mod-eq_of_lt, arith, pow_mono}
-use lib.Bits.{bit_and, bit_or, and_step, and_zero_l, or_shifted}
-use lib.Count.{ones, ones_step}
+use Rattle.std.proofs.Common.{◌≡◌, ℕ, zero, suc, ◌+◌, ◌-◌, ◌*◌, ◌/◌, ◌%◌, ◌^◌, ◌<◌, ◌≤◌, eqb, Bool, true, false, List, [], ◌∷◌, length, get_or, sym, refl, ap, ◌∙◌, subst, ap₂, mod-eq_of_lt, arith, pow_mono}
+use lib.Bits.{bit_or, or_shifted}
 use mir.Val.{bool_byte}
 use Rattle.std.proofs.lemmas.Nat.{div-mul-add, mod-mul-add, pow-add}
 use Rattle.std.proofs.lemmas.List.{get_or_past}
@@ -9,7 +8,7 @@ use Rattle.trellis.specs.Bits.{odd, bit_of, bits}
 use Rattle.trellis.specs.Codes.{summed}
 use Rattle.trellis.specs.Coding.{packed, entered}
 use Rattle.trellis.specs.Paths.{register}
-use Rattle.trellis.proofs.Bitwise.{bit_below, bit_of_odd, byte_bit, half_below, min_bits, odd_add, ones_none}
+use Rattle.trellis.proofs.Bitwise.{bit_below, byte_bit}
 use Rattle.trellis.proofs.Registers.{register_length, summed_register}
 
 -- the number that bits write has those bits

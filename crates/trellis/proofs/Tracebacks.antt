@@ -1,5 +1,5 @@
 -- The way back along the marks of a path record.
-use Rattle.std.proofs.Common.{◌≡◌, ℕ, suc, ◌+◌, ◌-◌, ◌*◌, ◌/◌, ◌%◌, ◌^◌, ◌<◌, ◌≤◌, Bool, false, ◌≢◌, List, [], ◌∷◌, length, get_or, drop, set, Some, None, Option, sym, refl, ap, ◌∙◌, inl, inr, mod-eq_of_lt, mul-lt-mul_of_pos_right, arith, get_or-set_other, get_or-set_same, pow_pos}
+use Rattle.std.proofs.Common.{◌≡◌, ℕ, suc, ◌+◌, ◌-◌, ◌*◌, ◌/◌, ◌%◌, ◌^◌, ◌<◌, ◌≤◌, Bool, false, ◌≢◌, List, [], ◌∷◌, length, get_or, drop, set, Some, Option, sym, ap, ◌∙◌, inl, inr, mod-eq_of_lt, mul-lt-mul_of_pos_right, arith, get_or-set_other, get_or-set_same, pow_pos}
 use Rattle.std.proofs.lemmas.List.{drop_more, length-drop, get_or-reverse}
 use Rattle.std.proofs.lemmas.Bool.{cases_eq}
 use Rattle.trellis.specs.Bits.{odd, bit_of}

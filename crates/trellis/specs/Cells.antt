@@ -1,5 +1,5 @@
 -- What the trellis keeps in memory, by the survivors that it stands for. A register is a number whose lowest bit is the newest.
-use Rattle.std.specs.Prelude.{◌≡◌, ℕ, suc, ◌+◌, ◌-◌, ◌*◌, ◌/◌, ◌^◌, ◌<◌, ◌≤◌, Bool, List, get_or, Some, None, Option, slice_index, slice_index_or}
+use Rattle.std.specs.Prelude.{◌≡◌, ℕ, suc, ◌+◌, ◌-◌, ◌*◌, ◌/◌, ◌^◌, ◌<◌, ◌≤◌, Bool, List, Some, None, Option, slice_index, slice_index_or}
 use Rattle.cost.specs.declared.kind.Cost.{Ghosts}
 use Rattle.trellis.specs.Bits.{odd, bits}
 use Rattle.trellis.specs.Paths.{cost_of}

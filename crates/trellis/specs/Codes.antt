@@ -1,5 +1,5 @@
 -- Convolutional codes: the sum of a row, and which codes are sound.
-use Rattle.std.specs.Prelude.{ℕ, ◌+◌, ◌/◌, ◌^◌, Bool, true, false, ◌&&◌, List, [], ◌∷◌, take, nat_le, nat_lt, slice_index}
+use Rattle.std.specs.Prelude.{ℕ, ◌+◌, ◌/◌, ◌^◌, Bool, false, ◌&&◌, List, [], ◌∷◌, take, nat_le, nat_lt, slice_index}
 use Rattle.std.specs.List.{list_all}
 use Rattle.trellis.specs.Bits.{odd, xor}
 use Rattle.trellis.specs.declared.code.Code.{Code}

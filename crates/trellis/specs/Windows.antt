@@ -1,6 +1,6 @@
 -- Windows: a register with the newest bit, as a number whose lowest bit is the newest.
 -- Window w comes from register w / 2, and windows s and s + 2 ^ memory meet in register s.
-use Rattle.std.specs.Prelude.{◌≡◌, ℕ, ◌+◌, ◌*◌, ◌/◌, ◌^◌, ◌<◌, Bool, true, false, not, cond, List, [], length, Some, None, Option, ◌==◌, ◌≢◌, slice_index, slice_index_or}
+use Rattle.std.specs.Prelude.{◌≡◌, ℕ, ◌+◌, ◌*◌, ◌/◌, ◌<◌, Bool, true, false, not, cond, List, [], length, Some, None, Option, ◌==◌, ◌≢◌, slice_index, slice_index_or}
 use Rattle.cost.specs.declared.kind.Cost.{Ghosts}
 use Rattle.trellis.specs.Bits.{bit_of, bits}
 use Rattle.trellis.specs.Codes.{summed}

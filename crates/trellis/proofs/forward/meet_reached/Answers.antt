@@ -1,4 +1,4 @@
-use Rattle.std.proofs.Common.{◌+◌, ◌<◌, ◌≢◌, length, None, ap, ◌∙◌, ap₂, arith, get_or-set_other, get_or-set_same, below_more}
+use Rattle.std.proofs.Common.{◌<◌, ◌≢◌, length, None, ap, ◌∙◌, ap₂, arith, get_or-set_other, get_or-set_same, below_more}
 use mir.Val.{bool_byte}
 use Rattle.trellis.specs.Bits.{bit_of}
 use Rattle.trellis.specs.Windows.{laid, lower, second_kept}

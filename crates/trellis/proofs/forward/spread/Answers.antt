@@ -1,6 +1,6 @@
-use Rattle.std.proofs.Common.{◌≡◌, ℕ, ◌/◌, true, false, length, get_or, Some, None, sym, ap, ◌∙◌, inl, inr, arith}
-use Rattle.std.proofs.lemmas.List.{get_or_read, get_or_past}
-use Rattle.std.proofs.lemmas.Bool.{cases_lt, cases_eq}
+use Rattle.std.proofs.Common.{◌≡◌, ℕ, ◌/◌, true, false, get_or, Some, None, sym, ap, ◌∙◌, inl, inr, arith}
+use Rattle.std.proofs.lemmas.List.{get_or_read}
+use Rattle.std.proofs.lemmas.Bool.{cases_eq}
 use Rattle.trellis.proofs.Numbers.{window_written, window_other}
 use Rattle.trellis.proofs.forward.spread.Goals as goal
 use Rattle.trellis.proofs.forward.spread.Goals.{in-Some, in-None}
@@ -34,12 +34,3 @@ loop-p-preserved g c =
         λ t q h e. let d : false ≡ true = sym w.whole-is ∙ t in let z : ◌≡◌ {A = ℕ} 0 1 = cc in absurd (omega arith),
       )
     ]
-
-pub returns : goal.returns
-returns g c = record {
-  costs = λ w x e. elim (cases_lt (w / 2) (length c.args.old.now)) [
-    | inl h ↦ c.loop-p.invariant.0 w x (omega arith) e
-    | inr h ↦ let d : None ≡ Some x = sym (get_or_past c.args.old.now (w / 2) None h) ∙ e in let z : ◌≡◌ {A = ℕ} 0 1 = cc in absurd (omega arith)
-  ];
-  whole = λ t q h. c.loop-p.invariant.1 t q (omega arith);
-}

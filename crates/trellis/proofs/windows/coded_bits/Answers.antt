@@ -1,7 +1,4 @@
-use Rattle.std.proofs.Common.{◌<◌, ◌≢◌, [], length, get_or, false, sym, ap, ◌∙◌, arith, length-set, get_or-take, get_or-set_other, get_or-set_same, below_more}
-use Rattle.std.proofs.lemmas.List.{length-take}
-use Rattle.trellis.specs.Bits.{bits}
-use Rattle.trellis.specs.Codes.{summed}
+use Rattle.std.proofs.Common.{◌<◌, ◌≢◌, [], length, get_or, false, ap, ◌∙◌, arith, length-set, get_or-set_other, get_or-set_same, below_more}
 use Rattle.trellis.proofs.windows.coded_bits.Goals as goal
 
 pub loop-i-preserved : goal.loop-i-preserved
@@ -15,10 +12,3 @@ loop-i-preserved c =
           (λ j h w f. let ne : j ≢ i = omega arith in ap (λ r. get_or r w false) (get_or-set_other rows i j row [] ne) ∙ c.loop-i.invariant.1 j h w f)
           (λ w f. ap (λ r. get_or r w false) (get_or-set_same rows i row [] here) ∙ c.row_bits.ensures w f),
     )
-
-pub returns : goal.returns
-returns c i w h f =
-    let code = c.args.code.now in
-    let long = length-take code.rows code.taps in
-    let row : i < code.rows = omega (arith, long) in
-    c.loop-i.invariant.1 i (omega (arith, long)) w f ∙ sym (ap (λ n. summed n (bits 8 w)) (get_or-take code.rows code.taps i 0 row))

@@ -1,4 +1,4 @@
-use Rattle.std.proofs.Common.{◌≡◌, ◌+◌, ◌-◌, ◌*◌, ◌^◌, ◌<◌, ◌≤◌, ◌++◌, length, get_or, take, drop, None, sym, ap, ◌∙◌, subst, arith, length-append, append-nil, pow_pos, rules}
+use Rattle.std.proofs.Common.{◌≡◌, ◌+◌, ◌-◌, ◌*◌, ◌^◌, ◌++◌, length, drop, None, ap, ◌∙◌, subst, arith, length-append, append-nil, pow_pos, rules}
 use Rattle.std.proofs.Math.Seq.{take-length, drop-length}
 use Rattle.std.proofs.lemmas.List.{length-take, length-drop, get_or_append_left, get_or_read}
 use Rattle.trellis.specs.Cells.{Cells, kept_at}
@@ -26,27 +26,6 @@ loop-t-init g c =
       λ u s h f. absurd (omega arith),
     )
 
-pub step-requires-clause-room : goal.step-requires-clause-room
-step-requires-clause-room g c =
-    let t = c.loop-t.t in
-    let registers = c.registers-registers.result in
-    let wide = c.registers-registers.ensures in
-    let next : (t + 1) * registers ≡ t * registers + registers = search rules in
-    let place : t * registers ≡ t * 2 ^ c.args.self.now.code.memory = ap (λ r. t * r) wide in
-    let fits = row_fits c.args.self.now.code.memory c.args.steps t (omega arith) in (
-      ap length (take-length c.loop-t.old.now) ∙ c.loop-t.invariant.0,
-      (
-        ap length (take-length c.loop-t.new.now) ∙ c.loop-t.invariant.1,
-        omega (arith, length-take ((t + 1) * registers - t * registers) (drop (t * registers) c.loop-t.paths), length-drop (t * registers) c.loop-t.paths),
-      ),
-    )
-
-pub step-requires-clause-cells : goal.step-requires-clause-cells
-step-requires-clause-cells g c =
-    let code = c.args.self.now.code in
-    let met = read g.C.Cost (g.H.Received.met c.args.heard.now) in
-    subst (Cells g.C.Cost (rows_of code) met code.memory c.loop-t.t) (sym (take-length c.loop-t.old.now)) c.loop-t.invariant.2
-
 pub loop-t-preserved : goal.loop-t-preserved
 loop-t-preserved g c =
     let k = g.C.Cost in
@@ -68,9 +47,6 @@ loop-t-preserved g c =
       cells_after k (rows_of code) met m t row c.swap.new.x.now same c.step.ensures.cells,
       marks_more m t (t * registers) (kept_at k (rows_of code) met m) c.loop-t.paths c.step.new.marks _ place (omega arith) wide c.loop-t.invariant.3 c.step.ensures.marks,
     )
-
-pub returns-clause-marks : goal.returns-clause-marks
-returns-clause-marks g c t s h f = c.loop-t.invariant.3 t s (omega arith) f
 
 pub returns-clause-value : goal.returns-clause-value
 returns-clause-value g c =

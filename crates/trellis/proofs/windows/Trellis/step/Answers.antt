@@ -1,5 +1,4 @@
 use Rattle.std.proofs.Common.{◌≡◌, ◌*◌, ◌^◌, length, arith, rules}
-use Rattle.std.proofs.lemmas.List.{length-take}
 use Rattle.trellis.specs.Codes.{rows_of}
 use Rattle.trellis.specs.Met.{read}
 use Rattle.trellis.specs.Windows.{Grown}
