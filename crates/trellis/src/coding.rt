@@ -21,7 +21,7 @@ impl Code {
     }
 }
 
-// The 8 bits that entered last, the newest lowest.
+// The 8 bits that entered last, the newest lowest. A `for`, since no proof was found of a fold over ages that fall.
 fn window(run: &[u8], newest: usize) -> u8
     ensures { result ≡ packed (register 8 (entered (map odd run.now) newest)) }
 {
