@@ -1,4 +1,5 @@
 pub mod Bench
+pub mod Bytes
 pub mod Channels
 pub mod Examples
 pub mod Layings

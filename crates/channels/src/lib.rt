@@ -3,6 +3,7 @@
 
 pub mod bcch;
 pub mod bench;
+pub mod byte;
 pub mod channel;
 pub mod data24;
 pub mod data96;

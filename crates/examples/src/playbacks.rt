@@ -1,5 +1,6 @@
 // Recordings, and the lines that playing them makes.
-use playback::play::play;
+use recording::play::play;
+use records::record::Openings;
 use std::alloc::{AllocError, Global};
 use std::process::Abort;
 use std::test::*;
@@ -10,7 +11,7 @@ mod marks;
 mod refusals;
 
 fn prints(rt: &impl Abort, alloc: Global, bytes: &[u8], lines: &str) -> Result<(), Fail> {
-    let played = play(alloc, bytes)?;
+    let played = play(alloc, Openings::All, bytes)?;
     assert_eq!(rt; played.as_str(), lines);
     Ok(())
 }

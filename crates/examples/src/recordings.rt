@@ -1,11 +1,12 @@
 // Recordings, and the lines that playing them makes.
 use recording::play::play;
+use records::record::Openings;
 use std::alloc::Global;
 use std::process::Abort;
 use std::test::*;
 
 fn prints(rt: &impl Abort, alloc: Global, bytes: &[u8], lines: &str) -> Result<(), Fail> {
-    let played = play(alloc, bytes)?;
+    let played = play(alloc, Openings::Bench, bytes)?;
     assert_eq!(rt; played.as_str(), lines);
     Ok(())
 }

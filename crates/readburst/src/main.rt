@@ -2,12 +2,13 @@
 #![tactic(auto)]
 
 use recording::play::play;
+use records::record::Openings;
 use std::io::Read;
 
 fn run(rt: &HostRuntime) -> anyhow::Result<()> {
     let mut bytes = Vec::new(rt.alloc());
     rt.stdin().read_to_end(&mut bytes)?;
-    let lines = play(rt.alloc(), &bytes)?;
+    let lines = play(rt.alloc(), Openings::Bench, &bytes)?;
     rt.print(lines.as_str())?;
     Ok(())
 }

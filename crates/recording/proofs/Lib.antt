@@ -1,3 +1,3 @@
-pub mod Figures
-pub mod Fronts
+pub mod Bits
+pub mod Going
 pub mod Playing

@@ -1,73 +1,106 @@
--- Playing what is left of a recording, from its front on.
-use Rattle.std.proofs.Common.{◌≡◌, ℕ, ◌+◌, ◌<◌, ◌≤◌, List, [], ◌∷◌, ◌++◌, length, drop, is_some, Some, None, Option, sym, refl, ap, ◌∙◌, subst, append_assoc, append-nil, arith, length-take}
+-- Playing what is left of a recording, from one opening to the next.
+use Rattle.std.proofs.Common.{◌≡◌, ℕ, ◌+◌, ◌<◌, ◌≤◌, Bool, true, false, List, [], ◌∷◌, ◌++◌, length, drop, Some, None, Option, sym, refl, ap, ◌∙◌, subst, append_assoc, append-nil, arith}
 use Rattle.std.proofs.lemmas.List.{drop_all, drop-drop, length-drop}
-use Rattle.link.specs.declared.refusal.Refusal.TheVariants.{BadRecord}
-use Rattle.recording.specs.Calls.{Room}
-use Rattle.recording.specs.Lines.{refusal_line}
-use Rattle.recording.specs.Playing.{Plays, Played, Turn, done, played, written, all_written, fault_written}
-use Rattle.recording.specs.Recordings.{Next, ends, faults, says}
-use Rattle.recording.specs.Records.{Said, Begins, spelling}
-use Rattle.recording.specs.declared.bench.Bench.{Bench}
-use Rattle.recording.specs.declared.printed.Line.{Line}
+use Rattle.channels.specs.declared.channel.Channel.{Channel}
+use Rattle.recording.specs.Answers.{Tells, silent, opening, Played}
+use Rattle.recording.specs.Kinds.{weighing}
+use Rattle.recording.specs.Lines.{opened_line, written, all_written, fault_written}
+use Rattle.recording.specs.Playing.{CallsAfter}
+use Rattle.records.specs.Recordings.{may_stand, Next, Spells, ends, faults, says}
+use Rattle.records.specs.Records.{Said, opens, Begins}
+use Rattle.records.specs.declared.record.Kind.{Kind}
+use Rattle.records.specs.declared.record.Openings.{Openings}
 
--- a record is no longer than the bytes that begin with it
-begins_within : (bytes : List ℕ) (s : Said) → Begins bytes s → length (spelling s) ≤ length bytes
-begins_within bytes s b = omega (arith, length-take (length (spelling s)) bytes, ap length b.spelt)
+-- lines after others are written after them
+all_written_more : (xs ys : List (List ℕ)) → all_written (xs ++ ys) ≡ all_written xs ++ all_written ys
+all_written_more [] ys = refl
+all_written_more (x ∷ xs) ys = ap (λ t. written x ++ t) (all_written_more xs ys) ∙ sym (append_assoc (written x) (all_written xs) (all_written ys))
 
--- where no bytes are left, nothing is made
-played_end : (bench : Option Bench) (at : ℕ) → Played bench at [] []
-played_end bench at = record { records = []; fault = None; lines = []; spelt = ends (is_some bench) at; run = done bench; shown = refl }
+-- an opening may stand anywhere
+opening_stands : (opened : Bool) (channel : Channel) (kind : Kind) → may_stand opened (opens channel kind) ≡ true
+opening_stands true channel kind = refl
+opening_stands false channel kind = refl
 
--- a fault makes its line, and nothing more
-played_fault : (bench : Option Bench) (at : ℕ) (bytes : List ℕ) → 0 < length bytes → ((s : Said) → Next (is_some bench) bytes s → ⊥) →
-    Played bench at bytes (written (refusal_line (BadRecord at)))
-played_fault bench at bytes some no-next =
-    record { records = []; fault = Some at; lines = []; spelt = faults (is_some bench) at bytes some no-next; run = done bench; shown = refl }
+module _ (known : Openings) (bytes : List ℕ) where
+  -- what the bytes from a place on make, where a channel has been opened or none
+  pub record Rest (opened : Bool) (at : ℕ) (made : List ℕ) : Type 0 where
+    pub records : List Said
+    pub fault : Option ℕ
+    pub lines : List (List ℕ)
+    pub spelt : Spells known opened at (drop at bytes) records fault
+    pub told : Tells records lines
+    pub shown : made ≡ all_written lines ++ fault_written fault
 
--- a record makes its line, and what follows it makes the others
-played_record : (bench : Option Bench) (after : Bench) (at : ℕ) (bytes : List ℕ) (s : Said) (line : Line) (made : List ℕ) →
-    Next (is_some bench) bytes s → Plays s bench after line → Room after →
-    Played (Some after) (at + length (spelling s)) (drop (length (spelling s)) bytes) made → Played bench at bytes (written line ++ made)
-played_record bench after at bytes s line made n a room p =
-    record {
-      records = s ∷ p.records;
-      fault = p.fault;
-      lines = line ∷ p.lines;
-      spelt = says (is_some bench) at bytes s p.records p.fault n p.spelt;
-      run = played s bench after line p.records p.lines a room p.run;
-      shown = ap (λ t. written line ++ t) p.shown ∙ sym (append_assoc (written line) (all_written p.lines) (fault_written p.fault));
-    }
+  -- how far playing has come: what comes next is no call, and the text so far and what is left to play give the whole
+  pub record Playing (at : ℕ) (so_far : List ℕ) : Type 0 where
+    pub opened : Bool
+    pub within : at ≤ length bytes
+    pub waits : (s : Said) → Next known opened (drop at bytes) s → may_stand false s ≡ true
+    pub gives : (made : List ℕ) → Rest opened at made → Played known bytes (so_far ++ made)
 
--- the text so far, and what is left to play, give the whole
-abbrev pub Gives : List ℕ → Option Bench → ℕ → List ℕ → Type 0
-Gives bytes bench at so_far = (made : List ℕ) → Played bench at (drop at bytes) made → Played None 0 bytes (so_far ++ made)
+  -- before the first record
+  pub playing_begun : Playing 0 []
+  playing_begun =
+      record {
+        opened = false;
+        within = omega arith;
+        waits = λ s n. n.stands;
+        gives = λ made left. record { records = left.records; fault = left.fault; lines = left.lines; spelt = left.spelt; told = left.told; shown = left.shown };
+      }
 
--- after a turn they still do
-pub gives_after : (bytes : List ℕ) (bench : Option Bench) (at : ℕ) (before : List ℕ) (bench' : Bench) (taken : ℕ) (after : List ℕ) →
-    Gives bytes bench at before → Turn bench (drop at bytes) before bench' taken after → Gives bytes (Some bench') (at + taken) after
-gives_after bytes bench at before bench' taken after gives t made p =
-    let line = t.wrote.line in
-    let n = length (spelling t.saying) in
-    let moved : drop (at + taken) bytes ≡ drop n (drop at bytes) = sym (drop-drop taken at bytes) ∙ ap (λ k. drop k (drop at bytes)) t.whole in
-    let left : Played (Some bench') (at + n) (drop n (drop at bytes)) made =
-    subst (λ k. Played (Some bench') (at + k) (drop n (drop at bytes)) made) t.whole (subst (λ b. Played (Some bench') (at + taken) b made) moved p) in
-    let whole : Played None 0 bytes (before ++ (written line ++ made)) =
-    gives (written line ++ made) (played_record bench bench' at (drop at bytes) t.saying line made t.next t.wrote.plays t.wrote.room left) in
-    subst (λ b. Played None 0 bytes b) (sym (append_assoc before (written line) made) ∙ ap (λ b. b ++ made) (sym t.wrote.wrote)) whole
+  -- where nothing is left, the text so far is the whole
+  pub playing_done : (at : ℕ) (so_far : List ℕ) → Playing at so_far → length bytes ≤ at → Played known bytes so_far
+  playing_done at so_far p h =
+      subst (λ t. Played known bytes t) (append-nil so_far) (p.gives [] (record {
+        records = [];
+        fault = None;
+        lines = [];
+        spelt = subst (λ b. Spells known p.opened at b [] None) (sym (drop_all at bytes h)) (ends p.opened at);
+        told = silent;
+        shown = refl;
+      }))
 
--- a turn stays within the bytes
-pub turn_within : (bytes : List ℕ) (bench : Option Bench) (at : ℕ) (before : List ℕ) (bench' : Bench) (taken : ℕ) (after : List ℕ) →
-    at ≤ length bytes → Turn bench (drop at bytes) before bench' taken after → at + taken ≤ length bytes
-turn_within bytes bench at before bench' taken after h t =
-    omega (arith, begins_within (drop at bytes) t.saying t.next.begins, t.whole, length-drop at bytes)
+  -- where no opening stands, the text so far and the fault's line are the whole
+  pub playing_fault : (at : ℕ) (so_far : List ℕ) → Playing at so_far → at < length bytes →
+      ((s : Said) → Next known false (drop at bytes) s → ⊥) → Played known bytes (so_far ++ fault_written (Some at))
+  playing_fault at so_far p h none =
+      p.gives (fault_written (Some at)) (record {
+        records = [];
+        fault = Some at;
+        lines = [];
+        spelt = faults p.opened at (drop at bytes) (omega (arith, length-drop at bytes)) (λ s n. none s (record { begins = n.begins; stands = p.waits s n }));
+        told = silent;
+        shown = refl;
+      })
 
--- where nothing is left, the text so far is the whole
-pub gives_end : (bytes : List ℕ) (bench : Option Bench) (at : ℕ) (so_far : List ℕ) → length bytes ≤ at → Gives bytes bench at so_far → Played None 0 bytes so_far
-gives_end bytes bench at so_far h gives =
-    subst (λ b. Played None 0 bytes b) (append-nil so_far) (gives [] (subst (λ b. Played bench at b []) (sym (drop_all at bytes h)) (played_end bench at)))
-
--- where no record may stand, the text so far and the fault's line are the whole
-pub gives_fault : (bytes : List ℕ) (bench : Option Bench) (at : ℕ) (so_far : List ℕ) → at < length bytes → ((s : Said) → Next (is_some bench) (drop at bytes) s → ⊥) →
-    Gives bytes bench at so_far → Played None 0 bytes (so_far ++ written (refusal_line (BadRecord at)))
-gives_fault bytes bench at so_far h no-next gives =
-    gives (written (refusal_line (BadRecord at))) (played_fault bench at (drop at bytes) (omega (arith, length-drop at bytes)) no-next)
+  -- an opening is played with the calls that follow it
+  pub playing_after : (at stop : ℕ) (channel : Channel) (kind : Kind) (so_far after : List ℕ) → Playing at so_far → Begins known (drop at bytes) (opens channel kind) →
+      CallsAfter (weighing kind) known channel bytes (at + 4) (so_far ++ written (opened_line channel)) stop after → Playing stop after
+  playing_after at stop channel kind so_far after p b h =
+      let f = h.follows in
+      let line = written (opened_line channel) in
+      record {
+        opened = true;
+        within = h.within;
+        waits = λ s n. h.stops s n.begins;
+        gives = λ made left.
+            subst (λ t. Played known bytes t)
+            (sym (append_assoc so_far line (h.made ++ made)) ∙ sym (append_assoc (so_far ++ line) h.made made) ∙ ap (λ t. t ++ made) (sym h.wrote))
+            (p.gives (line ++ (h.made ++ made)) (record {
+              records = opens channel kind ∷ (f.since ++ left.records);
+              fault = left.fault;
+              lines = opened_line channel ∷ (f.lines ++ left.lines);
+              spelt =
+                  says p.opened at (drop at bytes) (opens channel kind) (f.since ++ left.records) left.fault
+                  (record { begins = b; stands = opening_stands p.opened channel kind })
+                  (subst (λ t. Spells known true (at + 4) t (f.since ++ left.records) left.fault) (sym (drop-drop 4 at bytes))
+                  (f.spelt left.records left.fault left.spelt));
+              told = opening channel kind h.receiver h.memory f.since left.records f.lines left.lines h.tuned f.goes left.told;
+              shown =
+                  ap (λ t. line ++ t)
+                  (ap (λ t. t ++ made) f.shown ∙ ap (λ t. all_written f.lines ++ t) left.shown
+                  ∙ sym (append_assoc (all_written f.lines) (all_written left.lines) (fault_written left.fault))
+                  ∙ ap (λ t. t ++ fault_written left.fault) (sym (all_written_more f.lines left.lines)))
+                  ∙ sym (append_assoc line (all_written (f.lines ++ left.lines)) (fault_written left.fault));
+            }));
+      }

@@ -1,19 +1,18 @@
--- How a line is written.
-use Rattle.std.specs.Prelude.{ℕ, List, [], ◌∷◌, ◌++◌, Ok, Err, codes, decimal, Result}
-use Rattle.std.specs.Borrow.{Bor}
+-- The lines that tell what was answered.
+use Rattle.std.specs.Prelude.{ℕ, List, [], ◌∷◌, ◌++◌, take, Some, None, Ok, Err, codes, decimal, Option, Result}
+use Rattle.channels.specs.Bytes.{channel_byte}
+use Rattle.channels.specs.declared.channel.Channel.{Channel}
 use Rattle.cost.specs.declared.count.Count.{Count}
 use Rattle.link.specs.Refusals.{told}
 use Rattle.link.specs.declared.refusal.Refusal.{Refusal}
+use Rattle.link.specs.declared.refusal.Refusal.TheVariants.{BadRecord}
 use Rattle.link.specs.declared.report.Answer.{Answer}
-use Rattle.link.specs.declared.report.Answer.TheVariants as answers
-use Rattle.recording.specs.Records.{channel_byte}
-use Rattle.recording.specs.declared.printed.Line.{Line}
-use Rattle.recording.specs.declared.printed.Line.TheVariants.{Opened, Block, Waiting, Stolen, Restarted, Refused}
+use Rattle.link.specs.declared.report.Answer.TheVariants.{Waiting, Block}
 
 -- bits, one after the other
-abbrev pub figures : List ℕ → List ℕ
-figures [] = []
-figures (bit ∷ bits) = decimal bit ++ figures bits
+abbrev pub bits : List ℕ → List ℕ
+bits [] = []
+bits (bit ∷ more) = decimal bit ++ bits more
 
 -- words with a blank between any two
 abbrev pub words : List (List ℕ) → List ℕ
@@ -21,30 +20,42 @@ words [] = []
 words (word ∷ []) = word
 words (word ∷ next ∷ more) = word ++ (codes " " ++ words (next ∷ more))
 
--- a line without its end
-abbrev pub text : Line → List ℕ
-text (Opened channel) = words (codes "O" ∷ decimal (channel_byte channel) ∷ [])
-text (Block block cost heard message) = words (codes "B" ∷ decimal block ∷ decimal cost ∷ decimal heard ∷ figures message.0.now ∷ [])
-text (Waiting burst) = words (codes "W" ∷ decimal burst ∷ [])
-text (Stolen counted) = words (codes "S" ∷ decimal counted ∷ [])
-text Restarted = words (codes "R" ∷ [])
-text (Refused number detail) = words (codes "X" ∷ decimal number ∷ decimal detail ∷ [])
+abbrev pub opened_line : Channel → List ℕ
+opened_line channel = words (codes "O" ∷ decimal (channel_byte channel) ∷ [])
 
--- a refusal's line
-abbrev pub refusal_line : Refusal Count ℕ ℕ → Line
-refusal_line refusal = Refused (told refusal).number (told refusal).detail
+abbrev pub restarted_line : List ℕ
+restarted_line = words (codes "R" ∷ [])
 
--- the line of an answer to a burst heard or missed, with the message that the block memory holds
-abbrev pub report_line : Answer Count ℕ ℕ → Bor (List ℕ) → Line
-report_line (answers.Waiting burst) message = Waiting burst
-report_line (answers.Block report) message = Block report.block report.cost.value report.heard (record { 0 = message })
+module _ {C S P : Type 0} where
+  abbrev pub refusal_line : Refusal C S P → List ℕ
+  refusal_line refusal = words (codes "X" ∷ decimal (told refusal).number ∷ decimal (told refusal).detail ∷ [])
 
--- the same where the call may have been refused
-abbrev pub answer_line : Result (Answer Count ℕ ℕ) (Refusal Count ℕ ℕ) → Bor (List ℕ) → Line
-answer_line (Ok answer) message = report_line answer message
-answer_line (Err refusal) message = refusal_line refusal
+  -- of a block its number, its cost as `figures` writes it, its heard count, and the message that the block memory holds
+  abbrev pub told_line : (C → List ℕ) → ℕ → Answer C S P → List ℕ → List ℕ
+  told_line figures message (Waiting burst) block = words (codes "W" ∷ decimal burst ∷ [])
+  told_line figures message (Block report) block =
+      words (codes "B" ∷ decimal report.block ∷ figures report.cost ∷ decimal report.heard ∷ bits (take message block) ∷ [])
 
--- the line of an answer to a stolen burst
-abbrev pub stolen_line : Result ℕ (Refusal Count ℕ ℕ) → Line
-stolen_line (Ok counted) = Stolen counted
-stolen_line (Err refusal) = refusal_line refusal
+  -- the answer to a burst heard or missed
+  abbrev pub answer_line : (C → List ℕ) → ℕ → Result (Answer C S P) (Refusal C S P) → List ℕ → List ℕ
+  answer_line figures message (Ok answer) block = told_line figures message answer block
+  answer_line figures message (Err refusal) block = refusal_line refusal
+
+  -- the answer to a stolen burst
+  abbrev pub stolen_line : Result ℕ (Refusal C S P) → List ℕ
+  stolen_line (Ok counted) = words (codes "S" ∷ decimal counted ∷ [])
+  stolen_line (Err refusal) = refusal_line refusal
+
+-- a line with its end
+abbrev pub written : List ℕ → List ℕ
+written line = line ++ (10 ∷ [])
+
+-- lines one after the other
+abbrev pub all_written : List (List ℕ) → List ℕ
+all_written [] = []
+all_written (line ∷ lines) = written line ++ all_written lines
+
+-- the line of the fault, if there is one
+abbrev pub fault_written : Option ℕ → List ℕ
+fault_written None = []
+fault_written (Some offset) = written (refusal_line {C = Count} {S = ℕ} {P = ℕ} (BadRecord offset))

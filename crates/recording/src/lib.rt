@@ -1,8 +1,7 @@
-// Recordings: the records of one, and the lines that playing them makes.
+// Playing a recording: the calls that its records make, and the lines that tell the answers.
 #![tactic(auto)]
 
-mod bench;
+mod figures;
 pub mod play;
 mod printed;
-pub mod read;
-pub mod record;
+mod sample;

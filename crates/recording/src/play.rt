@@ -1,100 +1,133 @@
 // Playing a recording.
-ghost use Rattle.std.specs.Prelude.{◌≡◌, ◌++◌, IfOk, Some, None, string_bytes, OnOk};
-ghost use Rattle.recording.specs.Playing.{Played, Turns, Wrote, written};
-ghost use Rattle.recording.specs.Records.{said, opens};
+ghost use Rattle.std.specs.Prelude.{◌≡◌, ◌≤◌, ◌++◌, length, IfOk, string_bytes, OnOk};
+ghost use Rattle.recording.specs.Answers.{Played};
+ghost use Rattle.recording.specs.Kinds.{weighing};
+ghost use Rattle.recording.specs.Lines.{opened_line, written};
+ghost use Rattle.recording.specs.Made.{text};
+ghost use Rattle.recording.specs.Playing.{weighed, CallsAfter, ReadsOpening, Turns};
+ghost use Rattle.records.specs.Records.{said};
 
-use crate::bench::Bench;
+use crate::figures::Figured;
 use crate::printed::Line;
-use crate::read::next_record;
-use crate::record::{Channel, Kind, Record};
+use crate::sample::{Spelt, samples};
+use channels::channel::Channel;
+use cost::count::Count;
+use cost::kind::Cost;
+use cost::ranked::Ranked;
 use link::refusal::Refusal;
+use records::read::next_record;
+use records::record::{Kind, Openings, Record};
+use stations::station::Station;
 use std::alloc::{AllocError, Global};
 
-// The lines that playing the bytes makes, each with its end.
-pub fn play(heap: Global, bytes: &[u8]) -> Result<String, AllocError>
-    ensures { IfOk result (λ text. Played None 0 bytes.now (string_bytes text)) }
+// The lines that playing the bytes makes, each with its end; an opening that is not known is a fault.
+pub fn play(heap: Global, known: Openings, bytes: &[u8]) -> Result<String, AllocError>
+    ensures { IfOk result (λ text. Played known bytes.now (string_bytes text)) }
 {
     let mut lines = String::new(heap);
-    let mut bench = None;
     let mut at = 0;
     while at < bytes.len() {
-        match play_next(bench, &bytes[at..], &mut lines)? {
-            Some(turn) => {
-                let (after, taken) = turn;
-                bench = Some(after);
-                at += taken;
-            }
-            None => {
-                put(
-                    &mut lines,
-                    Line::refused(&Refusal::BadRecord { offset: at }),
-                )?;
-                break;
-            }
-        }
+        let Some((channel, kind, taken)) = next_opening(known, &bytes[at..]) else {
+            put(
+                &mut lines,
+                Line::refused(&Refusal::<Count>::BadRecord { offset: at }),
+            )?;
+            break;
+        };
+        at = play_opening(heap, known, channel, kind, bytes, at + taken, &mut lines)?;
     }
     Ok(lines)
 }
 
-// Plays the record at the front of the bytes, and tells the bench after it and how many bytes it takes; none where no record may be played.
-fn play_next(
-    bench: Option<Bench>,
-    bytes: &[u8],
-    lines: &mut String,
-) -> Result<Option<(Bench, usize)>, AllocError>
-    ensures { IfOk result (λ turn. Turns bench bytes.now (string_bytes lines.old) turn (string_bytes lines.new)) }
+// The opening at the front of the bytes, and how many bytes it takes; none if they do not begin with one.
+fn next_opening(known: Openings, bytes: &[u8]) -> Option<(Channel, Kind, usize)>
+    ensures { ReadsOpening known bytes.now result }
 {
-    let Some((record, taken)) = next_record(bytes) else {
-        return Ok(None);
-    };
-    match bench {
-        Some(opened) => {
-            let after = play_on(opened, record, lines)?;
-            Ok(Some((after, taken)))
-        }
-        None => {
-            let Record::Open { channel, kind } = record else {
-                return Ok(None);
-            };
-            let after = open(channel, kind, lines)?;
-            Ok(Some((after, taken)))
-        }
+    match next_record(known, bytes) {
+        Some((Record::Open { channel, kind }, taken)) => Some((channel, kind, taken)),
+        _ => None,
     }
 }
 
-fn play_on(mut bench: Bench, record: Record<'_>, lines: &mut String) -> Result<Bench, AllocError>
-    ensures { IfOk result (λ after. Wrote (said «record».entry) (Some bench) (string_bytes lines.old) after (string_bytes lines.new)) }
+// Plays an opening and the calls after it; tells where the first record stands that is no call.
+fn play_opening(
+    heap: Global,
+    known: Openings,
+    channel: Channel,
+    kind: Kind,
+    bytes: &[u8],
+    start: usize,
+    lines: &mut String,
+) -> Result<usize, AllocError>
+    requires { start ≤ length bytes.now }
+    ensures { IfOk result (λ stop. CallsAfter (weighing kind) known channel bytes.now start (string_bytes lines.old ++ written (opened_line channel)) stop (string_bytes lines.new)) }
+{
+    put(lines, Line::opened(channel))?;
+    match kind {
+        Kind::Count => play_calls::<Count>(heap, known, channel, bytes, start, lines),
+        Kind::Ranked => play_calls::<Ranked>(heap, known, channel, bytes, start, lines),
+    }
+}
+
+// The same of the calls alone, with costs of one kind.
+fn play_calls<C: Cost + Figured>(
+    heap: Global,
+    known: Openings,
+    channel: Channel,
+    bytes: &[u8],
+    start: usize,
+    lines: &mut String,
+) -> Result<usize, AllocError>
+where
+    C::Sample: Spelt,
+    requires { start ≤ length bytes.now }
+    ensures { IfOk result (λ stop. CallsAfter (weighed C.Cost C.Sample.Spelt.spelt C.Figured.figures) known channel bytes.now start (string_bytes lines.old) stop (string_bytes lines.new)) }
+{
+    let mut station = Station::<C>::open(heap, channel)?;
+    let mut at = start;
+    while let Some((record, taken)) = next_record(known, &bytes[at..]) {
+        if !answer::<C>(heap, &mut station, record, lines)? {
+            break;
+        }
+        at += taken;
+    }
+    Ok(at)
+}
+
+// Makes the call that the record asks for, and writes the line of its answer. An opening is no call, and the answer is false.
+fn answer<C: Cost + Figured>(
+    heap: Global,
+    station: &mut Station<C>,
+    record: Record<'_>,
+    lines: &mut String,
+) -> Result<bool, AllocError>
+where
+    C::Sample: Spelt,
+    ensures { IfOk result (λ called. Turns (weighed C.Cost C.Sample.Spelt.spelt C.Figured.figures) (said «record».entry) station.old (string_bytes lines.old) called station.new (string_bytes lines.new)) }
 {
     match record {
-        Record::Open { channel, kind } => return open(channel, kind, lines),
-        Record::Hear(samples) => {
-            let reply = bench.hear(samples);
-            put(lines, Line::answered(reply, bench.message()))?;
+        Record::Open { .. } => return Ok(false),
+        Record::Hear(bytes) => {
+            let heard = samples::<C::Sample>(heap, bytes)?;
+            let reply = station.hear(&heard);
+            put(lines, Line::answered(reply, station.message()))?;
         }
         Record::Miss => {
-            let reply = bench.miss();
-            put(lines, Line::answered(reply, bench.message()))?;
+            let reply = station.miss();
+            put(lines, Line::answered(reply, station.message()))?;
         }
-        Record::Stolen => put(lines, Line::stolen(bench.stolen()))?,
+        Record::Stolen => put(lines, Line::stolen(station.stolen()))?,
         Record::Restart => {
-            bench.restart();
+            station.restart();
             put(lines, Line::restarted())?;
         }
     }
-    Ok(bench)
+    Ok(true)
 }
 
-fn open(channel: Channel, kind: Kind, lines: &mut String) -> Result<Bench, AllocError>
-    ensures { IfOk result (λ after. Wrote (opens channel kind) None (string_bytes lines.old) after (string_bytes lines.new)) }
-{
-    put(lines, Line::opened(channel))?;
-    match (channel, kind) {
-        (Channel::Bench, Kind::Count) => Ok(Bench::open()),
-    }
-}
-
+// Writes the line with its end.
 fn put(lines: &mut String, line: Line<'_>) -> Result<(), AllocError>
-    ensures { OnOk result (string_bytes lines.new ≡ string_bytes lines.old ++ written line.entry) }
+    ensures { OnOk result (string_bytes lines.new ≡ string_bytes lines.old ++ written (text line.entry)) }
 {
     match writeln!(lines, "{line}") {
         Ok(()) => Ok(()),

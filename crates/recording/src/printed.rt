@@ -1,8 +1,10 @@
 // The lines that playing a recording makes.
 ghost use Rattle.std.specs.Prelude.{Some};
-ghost use Rattle.recording.specs.Lines.{text, figures};
+ghost use Rattle.recording.specs.Lines.{bits};
+ghost use Rattle.recording.specs.Made.{text};
 
-use crate::record::Channel;
+use crate::figures::Figures;
+use channels::channel::Channel;
 use std::fmt;
 
 pub mod made;
@@ -12,7 +14,7 @@ pub enum Line<'a> {
     Opened(Channel),
     Block {
         block: usize,
-        cost: u16,
+        cost: Figures,
         heard: usize,
         message: Bits<'a>,
     },
@@ -30,7 +32,7 @@ pub enum Line<'a> {
 pub struct Bits<'a>(pub &'a [u8]);
 
 impl<'a> fmt::Display for Bits<'a> {
-    ghost output = { λ b. Some (figures b.0.now) };
+    ghost output = { λ b. Some (bits b.0.now) };
 
     fn fmt<W: fmt::Write>(&self, f: &mut fmt::Formatter<W>) -> fmt::Result {
         for bit in self.0 {
@@ -46,7 +48,7 @@ impl<'a> fmt::Display for Line<'a> {
     fn fmt<W: fmt::Write>(&self, f: &mut fmt::Formatter<W>) -> fmt::Result {
         match *self {
             Line::Opened(channel) => {
-                let byte = channel.byte();
+                let byte = u8::from(channel);
                 write!(f, "O {byte}")
             }
             Line::Block {

@@ -1,6 +1,7 @@
 -- Bytes taken apart at their front.
 use Rattle.std.proofs.Common.{◌≡◌, ℕ, ◌+◌, ◌-◌, ◌*◌, ◌/◌, ◌%◌, ◌<◌, ◌≤◌, List, ◌∷◌, length, get_or, take, drop, ap, ◌∙◌, subst, arith, length-take, drop-cons}
 use Rattle.std.proofs.lemmas.List.{take_all, length-drop}
+use Rattle.records.specs.declared.record.Openings.{Openings}
 use Rattle.records.specs.Records.{Said, opens, hears, misses, steals, restarts, spelling, Begins}
 
 -- four bytes or more are their first four and what follows
@@ -13,10 +14,10 @@ first_four xs h =
     drop-cons xs 0 0 a ∙ ap (λ t. get_or xs 0 0 ∷ t) (drop-cons xs 1 0 b ∙ ap (λ t. get_or xs 1 0 ∷ t) (drop-cons xs 2 0 d ∙ ap (λ t. get_or xs 2 0 ∷ t) (drop-cons xs 3 0 e)))
 
 -- bytes that begin with the mark of a burst heard, and with a record, begin with as many samples as the count says
-pub counts_heard : (high low : ℕ) (rest : List ℕ) (s : Said) → Begins (0x48 ∷ 0x45 ∷ high ∷ low ∷ rest) s →
+pub counts_heard : (known : Openings) (high low : ℕ) (rest : List ℕ) (s : Said) → Begins known (0x48 ∷ 0x45 ∷ high ∷ low ∷ rest) s →
     (high * 256 + low ≤ 1024) × (high * 256 + low ≤ length rest)
-counts_heard high low rest (opens channel kind) b = let e = b.spelt in let z : ◌≡◌ {A = ℕ} 72 79 = cc in absurd (omega arith)
-counts_heard high low rest (hears samples) b =
+counts_heard known high low rest (opens channel kind) b = let e = b.spelt in let z : ◌≡◌ {A = ℕ} 72 79 = cc in absurd (omega arith)
+counts_heard known high low rest (hears samples) b =
     let e = b.spelt in
     let h : high ≡ length samples / 256 = cc in
     let l : low ≡ length samples % 256 = cc in
@@ -24,13 +25,13 @@ counts_heard high low rest (hears samples) b =
     let n : length samples ≤ length rest = omega (arith, length-take (length samples) rest, ap length t) in
     let m = b.short in
     (omega arith, omega arith)
-counts_heard high low rest misses b = let e = b.spelt in let z : ◌≡◌ {A = ℕ} 72 77 = cc in absurd (omega arith)
-counts_heard high low rest steals b = let e = b.spelt in let z : ◌≡◌ {A = ℕ} 72 83 = cc in absurd (omega arith)
-counts_heard high low rest restarts b = let e = b.spelt in let z : ◌≡◌ {A = ℕ} 72 82 = cc in absurd (omega arith)
+counts_heard known high low rest misses b = let e = b.spelt in let z : ◌≡◌ {A = ℕ} 72 77 = cc in absurd (omega arith)
+counts_heard known high low rest steals b = let e = b.spelt in let z : ◌≡◌ {A = ℕ} 72 83 = cc in absurd (omega arith)
+counts_heard known high low rest restarts b = let e = b.spelt in let z : ◌≡◌ {A = ℕ} 72 82 = cc in absurd (omega arith)
 
 -- a record is no longer than the bytes that begin with it
-pub begins_within : (bytes : List ℕ) (s : Said) → Begins bytes s → length (spelling s) ≤ length bytes
-begins_within bytes s b = omega (arith, length-take (length (spelling s)) bytes, ap length b.spelt)
+pub begins_within : (known : Openings) (bytes : List ℕ) (s : Said) → Begins known bytes s → length (spelling s) ≤ length bytes
+begins_within known bytes s b = omega (arith, length-take (length (spelling s)) bytes, ap length b.spelt)
 
 -- and is some bytes long
 pub spelling_some : (s : Said) → 0 < length (spelling s)

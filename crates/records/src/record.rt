@@ -1,14 +1,21 @@
 // The records of a recording.
-ghost use Rattle.std.specs.Prelude.{◌≡◌};
-ghost use Rattle.records.specs.Records.{channel_byte, NamesChannel, NamesKind};
+ghost use Rattle.std.specs.Prelude.{◌≡◌, MatchResult};
+ghost use Rattle.records.specs.Records.{has, kind_byte, NamesNoKind};
 
 use channels::channel::Channel;
 
 // The kind of path cost that a channel is opened with.
-#[derive(Clone, Copy)]
+#[derive(Clone, Copy, Debug, PartialEq, Eq)]
 pub enum Kind {
     Count,
     Ranked,
+}
+
+// The openings that a program knows: the bench's at the count kind, or those of all channels at both kinds.
+#[derive(Clone, Copy, Debug, PartialEq, Eq)]
+pub enum Openings {
+    Bench,
+    All,
 }
 
 #[derive(Clone, Copy)]
@@ -20,38 +27,31 @@ pub enum Record<'a> {
     Restart,
 }
 
-// The byte that names a channel.
-pub fn byte_of(channel: Channel) -> u8
-    ensures { result ≡ channel_byte channel }
-{
-    match channel {
-        Channel::Bench => 0,
-        Channel::Bcch => 1,
-        Channel::Data24 => 2,
-        Channel::Data96 => 3,
-    }
-}
+// A byte that names no kind.
+#[derive(Clone, Copy, Debug, PartialEq, Eq)]
+pub struct UnknownKind(pub u8);
 
-pub fn channel_of(byte: u8) -> Option<Channel>
-    ensures { NamesChannel byte result }
-{
-    match byte {
-        0 => Some(Channel::Bench),
-        1 => Some(Channel::Bcch),
-        2 => Some(Channel::Data24),
-        3 => Some(Channel::Data96),
-        _ => None,
-    }
-}
+impl TryFrom<u8> for Kind {
+    type Error = UnknownKind;
 
-impl Kind {
-    pub fn of_byte(byte: u8) -> Option<Kind>
-        ensures { NamesKind byte result }
-    {
+    ghost try_from_gives = { λ byte r. MatchResult r (λ kind. kind_byte kind ≡ byte) (λ e. (e.0 ≡ byte) × NamesNoKind byte) };
+
+    fn try_from(byte: u8) -> Result<Kind, UnknownKind> {
         match byte {
-            0 => Some(Kind::Count),
-            1 => Some(Kind::Ranked),
-            _ => None,
+            0 => Ok(Kind::Count),
+            1 => Ok(Kind::Ranked),
+            _ => Err(UnknownKind(byte)),
+        }
+    }
+}
+
+impl Openings {
+    pub fn has(self, channel: Channel, kind: Kind) -> bool
+        ensures { result ≡ has self channel kind }
+    {
+        match self {
+            Openings::Bench => matches!((channel, kind), (Channel::Bench, Kind::Count)),
+            Openings::All => true,
         }
     }
 }

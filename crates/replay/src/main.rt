@@ -1,13 +1,14 @@
 // Plays the recording on standard input, and prints its lines.
 #![tactic(auto)]
 
-use playback::play::play;
+use recording::play::play;
+use records::record::Openings;
 use std::io::Read;
 
 fn run(rt: &HostRuntime) -> anyhow::Result<()> {
     let mut bytes = Vec::new(rt.alloc());
     rt.stdin().read_to_end(&mut bytes)?;
-    let lines = play(rt.alloc(), &bytes)?;
+    let lines = play(rt.alloc(), Openings::All, &bytes)?;
     rt.print(lines.as_str())?;
     Ok(())
 }

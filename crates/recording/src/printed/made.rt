@@ -1,30 +1,30 @@
 // Which line an answer makes.
-ghost use Rattle.std.specs.Prelude.{◌≡◌};
-ghost use Rattle.recording.specs.Lines.{answer_line, stolen_line, refusal_line, report_line};
-ghost use Rattle.recording.specs.declared.printed.Line.TheVariants.{Opened, Restarted};
+ghost use Rattle.std.specs.Prelude.{◌≡◌, length};
+ghost use Rattle.recording.specs.Lines.{opened_line, restarted_line, refusal_line, stolen_line, answer_line, told_line};
+ghost use Rattle.recording.specs.Made.{text};
 
 use super::{Bits, Line};
-use crate::record::Channel;
-use cost::count::Count;
+use crate::figures::Figured;
+use channels::channel::Channel;
 use cost::kind::Cost;
 use link::refusal::Refusal;
 use link::report::Answer;
 
 impl<'a> Line<'a> {
     pub(crate) fn opened(channel: Channel) -> Line<'a>
-        ensures { result ≡ Opened channel }
+        ensures { text result ≡ opened_line channel }
     {
         Line::Opened(channel)
     }
 
     pub(crate) fn restarted() -> Line<'a>
-        ensures { result ≡ Restarted }
+        ensures { text result ≡ restarted_line }
     {
         Line::Restarted
     }
 
-    pub(crate) fn refused(refusal: &Refusal<Count>) -> Line<'a>
-        ensures { result ≡ refusal_line refusal.now }
+    pub(crate) fn refused<C: Cost>(refusal: &Refusal<C>) -> Line<'a>
+        ensures { text result ≡ refusal_line refusal.now }
     {
         Line::Refused {
             number: refusal.number(),
@@ -32,8 +32,8 @@ impl<'a> Line<'a> {
         }
     }
 
-    pub(crate) fn stolen(reply: Result<usize, Refusal<Count>>) -> Line<'a>
-        ensures { result ≡ stolen_line reply }
+    pub(crate) fn stolen<C: Cost>(reply: Result<usize, Refusal<C>>) -> Line<'a>
+        ensures { text result ≡ stolen_line reply }
     {
         match reply {
             Ok(counted) => Line::Stolen(counted),
@@ -42,11 +42,11 @@ impl<'a> Line<'a> {
     }
 
     // Of a block decided, with its message.
-    pub(crate) fn answered(
-        reply: Result<Answer<Count>, Refusal<Count>>,
+    pub(crate) fn answered<C: Cost + Figured>(
+        reply: Result<Answer<C>, Refusal<C>>,
         message: &'a [u8],
     ) -> Line<'a>
-        ensures { result ≡ answer_line reply message.entry }
+        ensures { text result ≡ answer_line C.Figured.figures (length message.now) reply message.now }
     {
         match reply {
             Ok(answer) => Line::told(answer, message),
@@ -54,20 +54,17 @@ impl<'a> Line<'a> {
         }
     }
 
-    fn told(answer: Answer<Count>, message: &'a [u8]) -> Line<'a>
-        ensures { result ≡ report_line answer message.entry }
+    fn told<C: Cost + Figured>(answer: Answer<C>, message: &'a [u8]) -> Line<'a>
+        ensures { text result ≡ told_line C.Figured.figures (length message.now) answer message.now }
     {
         match answer {
             Answer::Waiting { burst } => Line::Waiting(burst),
-            Answer::Block(report) => {
-                let cost = report.cost.to_plain();
-                Line::Block {
-                    block: report.block,
-                    cost,
-                    heard: report.heard,
-                    message: Bits(message),
-                }
-            }
+            Answer::Block(report) => Line::Block {
+                block: report.block,
+                cost: report.cost.to_figures(),
+                heard: report.heard,
+                message: Bits(message),
+            },
         }
     }
 }

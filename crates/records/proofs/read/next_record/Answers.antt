@@ -12,7 +12,7 @@ returns-in-79 c =
     let b : get_or xs 1 0 ≡ 80 = search rules in
     let f = first_four xs n in
     let e : xs ≡ 79 ∷ 80 ∷ get_or xs 2 0 ∷ get_or xs 3 0 ∷ drop 4 xs = cc in
-    subst (λ bytes. Reads bytes c.opened.result) (sym e) (c.opened.ensures (drop 4 xs))
+    subst (λ bytes. Reads c.args.known bytes c.opened.result) (sym e) (c.opened.ensures (drop 4 xs))
 
 pub returns-in-72 : goal.returns-in-72
 returns-in-72 c =
@@ -23,4 +23,4 @@ returns-in-72 c =
     let f = first_four xs n in
     let t : take (length xs - 4) (drop 4 xs) ≡ drop 4 xs = take_all (length xs - 4) (drop 4 xs) (simp length-drop (omega arith)) in
     let e : xs ≡ 72 ∷ 69 ∷ get_or xs 2 0 ∷ get_or xs 3 0 ∷ take (length xs - 4) (drop 4 xs) = cc in
-    subst (λ bytes. Reads bytes c.heard.result) (sym e) c.heard.ensures
+    subst (λ bytes. Reads c.args.known bytes c.heard.result) (sym e) c.heard.ensures

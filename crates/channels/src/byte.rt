@@ -1,0 +1,38 @@
+// The byte that names a channel.
+ghost use Rattle.std.specs.Prelude.{◌≡◌, MatchResult};
+ghost use Rattle.channels.specs.Bytes.{channel_byte, NamesNone};
+
+use crate::channel::Channel;
+
+// A byte that names no channel.
+#[derive(Clone, Copy, Debug, PartialEq, Eq)]
+pub struct UnknownChannel(pub u8);
+
+impl From<Channel> for u8 {
+    ghost from_gives = { λ channel byte. byte ≡ channel_byte channel };
+
+    fn from(channel: Channel) -> u8 {
+        match channel {
+            Channel::Bench => 0,
+            Channel::Bcch => 1,
+            Channel::Data24 => 2,
+            Channel::Data96 => 3,
+        }
+    }
+}
+
+impl TryFrom<u8> for Channel {
+    type Error = UnknownChannel;
+
+    ghost try_from_gives = { λ byte r. MatchResult r (λ channel. channel_byte channel ≡ byte) (λ e. (e.0 ≡ byte) × NamesNone byte) };
+
+    fn try_from(byte: u8) -> Result<Channel, UnknownChannel> {
+        match byte {
+            0 => Ok(Channel::Bench),
+            1 => Ok(Channel::Bcch),
+            2 => Ok(Channel::Data24),
+            3 => Ok(Channel::Data96),
+            _ => Err(UnknownChannel(byte)),
+        }
+    }
+}

@@ -1,7 +1,0 @@
-// Playing a recording: the calls that its records make, and the lines that tell the answers.
-#![tactic(auto)]
-
-mod figures;
-pub mod play;
-mod printed;
-mod sample;
