@@ -1,5 +1,6 @@
 -- The kinds of cost that a recording may be heard with: how each reads a byte, and how its costs are written.
-use Rattle.std.specs.Prelude.{ℕ, ◌-◌, cond, List, ◌++◌, ℤ, pos, negsuc, codes, decimal, nat_lt}
+use Rattle.std.specs.Prelude.{ℕ, ◌-◌, cond, List, ℤ, pos, negsuc, nat_lt}
+use Rattle.cost.specs.Figures.{count_figures, ranked_figures}
 use Rattle.cost.specs.contracts.count.weigh.CountCost.TheImpl.{ghosts as count_kind}
 use Rattle.cost.specs.contracts.ranked.weigh.RankedCost.TheImpl.{ghosts as ranked_kind}
 use Rattle.cost.specs.declared.count.Count.{Count}
@@ -21,14 +22,6 @@ pub record Weighing : Type 1 where
 -- a byte in two's complement
 abbrev pub signed : ℕ → ℤ
 signed byte = cond (nat_lt byte 128) (pos byte) (negsuc (255 - byte))
-
--- a count is written as its number
-abbrev pub count_figures : Count → List ℕ
-count_figures c = decimal c.value
-
--- a ranked cost is written as count/strength
-abbrev pub ranked_figures : Ranked → List ℕ
-ranked_figures c = decimal c.count ++ (codes "/" ++ decimal c.strength)
 
 -- the count kind reads a byte as it is, the ranked kind in two's complement
 abbrev pub weighing : Kind → Weighing

@@ -8,11 +8,10 @@ ghost use Rattle.recording.specs.Playing.{weighed, CallsAfter, ReadsOpening, Tur
 ghost use Rattle.records.specs.Records.{said};
 
 use crate::figures::Figured;
-use crate::printed::Line;
+use crate::printed::{Bits, Line};
 use crate::sample::{Spelt, samples};
 use channels::channel::Channel;
 use cost::count::Count;
-use cost::kind::Cost;
 use cost::ranked::Ranked;
 use link::refusal::Refusal;
 use records::read::next_record;
@@ -28,10 +27,8 @@ pub fn play(heap: Global, known: Openings, bytes: &[u8]) -> Result<String, Alloc
     let mut at = 0;
     while at < bytes.len() {
         let Some((channel, kind, taken)) = next_opening(known, &bytes[at..]) else {
-            put(
-                &mut lines,
-                Line::refused(&Refusal::<Count>::BadRecord { offset: at }),
-            )?;
+            let fault = Refusal::BadRecord { offset: at };
+            put(&mut lines, &Line::<Bits<'_>, Count>::Refused(fault))?;
             break;
         };
         at = play_opening(heap, known, channel, kind, bytes, at + taken, &mut lines)?;
@@ -62,7 +59,7 @@ fn play_opening(
     requires { start ≤ length bytes.now }
     ensures { IfOk result (λ stop. CallsAfter (weighing kind) known channel bytes.now start (string_bytes lines.old ++ written (opened_line channel)) stop (string_bytes lines.new)) }
 {
-    put(lines, Line::opened(channel))?;
+    put(lines, &Line::<Bits<'_>, Count>::Opened(channel))?;
     match kind {
         Kind::Count => play_calls::<Count>(heap, known, channel, bytes, start, lines),
         Kind::Ranked => play_calls::<Ranked>(heap, known, channel, bytes, start, lines),
@@ -70,7 +67,7 @@ fn play_opening(
 }
 
 // The same of the calls alone, with costs of one kind.
-fn play_calls<C: Cost + Figured>(
+fn play_calls<C: Figured>(
     heap: Global,
     known: Openings,
     channel: Channel,
@@ -95,7 +92,7 @@ where
 }
 
 // Makes the call that the record asks for, and writes the line of its answer. An opening is no call, and the answer is false.
-fn answer<C: Cost + Figured>(
+fn answer<C: Figured>(
     heap: Global,
     station: &mut Station<C>,
     record: Record<'_>,
@@ -110,27 +107,26 @@ where
         Record::Hear(bytes) => {
             let heard = samples::<C::Sample>(heap, bytes)?;
             let reply = station.hear(&heard);
-            put(lines, Line::answered(reply, station.message()))?;
+            let message = Bits(station.message());
+            put(lines, &Line::Answered(reply, message))?;
         }
         Record::Miss => {
             let reply = station.miss();
-            put(lines, Line::answered(reply, station.message()))?;
+            let message = Bits(station.message());
+            put(lines, &Line::Answered(reply, message))?;
         }
-        Record::Stolen => put(lines, Line::stolen(station.stolen()))?,
+        Record::Stolen => put(lines, &Line::Stolen(station.stolen()))?,
         Record::Restart => {
             station.restart();
-            put(lines, Line::restarted())?;
+            put(lines, &Line::<Bits<'_>, C>::Restarted)?;
         }
     }
     Ok(true)
 }
 
 // Writes the line with its end.
-fn put(lines: &mut String, line: Line<'_>) -> Result<(), AllocError>
-    ensures { OnOk result (string_bytes lines.new ≡ string_bytes lines.old ++ written (text line.entry)) }
+fn put<C: Figured>(lines: &mut String, line: &Line<Bits<'_>, C>) -> Result<(), AllocError>
+    ensures { OnOk result (string_bytes lines.new ≡ string_bytes lines.old ++ written (text C.Figured.figures line.now)) }
 {
-    match writeln!(lines, "{line}") {
-        Ok(()) => Ok(()),
-        Err(_) => Err(AllocError),
-    }
+    writeln!(lines, "{line}")
 }

@@ -3,28 +3,21 @@ ghost use Rattle.std.specs.Prelude.{Some};
 ghost use Rattle.recording.specs.Lines.{bits};
 ghost use Rattle.recording.specs.Made.{text};
 
-use crate::figures::Figures;
+use crate::figures::Figured;
 use channels::channel::Channel;
+use cost::kind::Cost;
+use link::refusal::Refusal;
+use link::report::Answer;
 use std::fmt;
 
-pub mod made;
-
 #[derive(Clone, Copy)]
-pub enum Line<'a> {
+pub enum Line<M, C: Cost> {
     Opened(Channel),
-    Block {
-        block: usize,
-        cost: Figures,
-        heard: usize,
-        message: Bits<'a>,
-    },
-    Waiting(usize),
-    Stolen(usize),
+    // Of a block decided, with its message.
+    Answered(Result<Answer<C>, Refusal<C>>, M),
+    Stolen(Result<usize, Refusal<C>>),
     Restarted,
-    Refused {
-        number: u8,
-        detail: usize,
-    },
+    Refused(Refusal<C>),
 }
 
 // Bits, each a byte 0 or 1.
@@ -42,25 +35,22 @@ impl<'a> fmt::Display for Bits<'a> {
     }
 }
 
-impl<'a> fmt::Display for Line<'a> {
-    ghost output = { λ l. Some (text l) };
+impl<'a, C: Figured> fmt::Display for Line<Bits<'a>, C> {
+    ghost output = { λ l. Some (text C.Figured.figures l) };
 
     fn fmt<W: fmt::Write>(&self, f: &mut fmt::Formatter<W>) -> fmt::Result {
-        match *self {
-            Line::Opened(channel) => {
-                let byte = u8::from(channel);
-                write!(f, "O {byte}")
-            }
-            Line::Block {
-                block,
-                cost,
-                heard,
-                message,
-            } => write!(f, "B {block} {cost} {heard} {message}"),
-            Line::Waiting(burst) => write!(f, "W {burst}"),
-            Line::Stolen(counted) => write!(f, "S {counted}"),
+        match self {
+            Line::Opened(channel) => write!(f, "O {}", u8::from(*channel)),
+            Line::Answered(Ok(Answer::Waiting { burst }), _) => write!(f, "W {burst}"),
+            Line::Answered(Ok(Answer::Block(report)), message) => write!(
+                f,
+                "B {} {} {} {message}",
+                report.block, report.cost, report.heard
+            ),
+            Line::Stolen(Ok(counted)) => write!(f, "S {counted}"),
             Line::Restarted => write!(f, "R"),
-            Line::Refused { number, detail } => write!(f, "X {number} {detail}"),
+            Line::Answered(Err(refusal), _) | Line::Stolen(Err(refusal)) | Line::Refused(refusal) =>
+                write!(f, "X {} {}", refusal.number(), refusal.detail()),
         }
     }
 }

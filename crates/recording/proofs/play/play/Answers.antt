@@ -43,6 +43,6 @@ returns c =
       | then-loop-at-test+in_default+in_ok-put w ↦
           let none = on_rest (λ b. ReadsOpening c.args.known b None) at bytes w.in_default.ensures in
           subst (λ t. Played c.args.known bytes t)
-          (sym (ap string_bytes w.lines-is ∙ w.in_ok-put.ensures ∙ ap (λ line. so_far ++ written line) w.refused.ensures))
+          (sym (ap string_bytes w.lines-is ∙ w.in_ok-put.ensures))
           (playing_fault c.args.known bytes at so_far c.loop-at.invariant w.loop-at-test.true none)
     ]
