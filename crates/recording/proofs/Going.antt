@@ -1,8 +1,10 @@
 -- The calls after an opening, played one after the other: the history goes on with each, and its line is written.
-use Rattle.std.proofs.Common.{◌≡◌, ℕ, ◌+◌, ◌≤◌, true, List, [], ◌∷◌, ◌++◌, map, length, drop, None, sym, refl, ap, ◌∙◌, subst, append_assoc, append-nil, arith}
+use Rattle.std.proofs.Common.{◌≡◌, ℕ, ◌+◌, ◌≤◌, true, false, List, [], ◌∷◌, ◌++◌, map, length, drop, None, string_bytes, sym, refl, ap, ◌∙◌, subst, append_assoc, append-nil, arith}
 use Rattle.std.proofs.lemmas.List.{drop-drop, length-drop}
 use Rattle.std.proofs.lemmas.Bool.{le-leb}
+use Rattle.channels.specs.Channels.{Tuned}
 use Rattle.channels.specs.Layings.{laying_line}
+use Rattle.channels.specs.declared.channel.Channel.{Channel}
 use Rattle.channels.specs.declared.laying.Laying.{Laying}
 use Rattle.link.specs.Calls.{Memory, sizes, Reply, silence}
 use Rattle.link.specs.Histories.{History, begun, heard, missed, stole, restarted, counting, AllSound}
@@ -11,10 +13,12 @@ use Rattle.link.specs.declared.format.Format.{Format}
 use Rattle.link.specs.declared.receiver.Receiver.{Receiver}
 use Rattle.recording.specs.Answers.{Enough, Goes, ends, hearing, missing, stealing, restarting}
 use Rattle.recording.specs.Kinds.{Weighing}
-use Rattle.recording.specs.Lines.{answer_line, stolen_line, restarted_line, written}
-use Rattle.recording.specs.Playing.{Wrote, Follows}
+use Rattle.recording.proofs.Playing.{of_bytes}
+use Rattle.recording.specs.Lines.{opened_line, answer_line, stolen_line, restarted_line, written}
+use Rattle.recording.specs.Playing.{rest, Same, Wrote, Follows, CallsAfter}
+use Rattle.recording.specs.declared.player.Player.{Player}
 use Rattle.records.specs.declared.record.Openings.{Openings}
-use Rattle.records.specs.Recordings.{Spells, says}
+use Rattle.records.specs.Recordings.{may_stand, Spells, says}
 use Rattle.records.specs.Records.{Said, opens, hears, misses, steals, restarts, spelling, Begins}
 use Rattle.stations.specs.Stations.{memory}
 use Rattle.stations.specs.declared.station.Station.{Station}
@@ -157,4 +161,29 @@ going_begun w known bytes start s before room within =
       so_far = [];
       wrote = sym (append-nil before);
       gives = λ stop made f. f;
+    }
+
+-- how far a player has come with the calls that it began at `p`, with a station opened as `first`
+pub record Going_by (w : Weighing) (p : Player) (before : List ℕ) (first : Station w.C w.S w.P) (q : Player) (s : Station w.C w.S w.P) : Type 0 where
+  pub same : Same p q
+  pub going : Going w p.known first.receiver p.bytes.now p.at (memory first) s.receiver (memory s) q.at before (string_bytes q.lines)
+
+-- where they stop, all calls after the opening have been played
+pub calls_after : (w : Weighing) (p : Player) (channel : Channel) (first : Station w.C w.S w.P) (q : Player) (s : Station w.C w.S w.P) →
+    Tuned w.kind channel first.receiver → Going_by w p (string_bytes p.lines ++ written (opened_line channel)) first q s →
+    (text : List ℕ) → text ≡ string_bytes q.lines → ((t : Said) → Begins q.known (rest q) t → may_stand false t ≡ true) →
+    CallsAfter w p.known channel p.bytes.now p.at (string_bytes p.lines ++ written (opened_line channel)) q.at text
+calls_after w p channel first q s tuned i text e stops =
+    let before = string_bytes p.lines ++ written (opened_line channel) in
+    let going = i.going in
+    record {
+      receiver = first.receiver;
+      memory = memory first;
+      made = going.so_far;
+      tuned = tuned;
+      follows = going_done w p.known first.receiver p.bytes.now p.at (memory first) s.receiver (memory s) q.at before (string_bytes q.lines) going;
+      wrote = e ∙ going.wrote;
+      forward = going.forward;
+      within = going.within;
+      stops = of_bytes p.known p.bytes.now (λ k b. (t : Said) → Begins k b t → may_stand false t ≡ true) q i.same stops;
     }

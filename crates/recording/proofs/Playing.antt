@@ -1,11 +1,13 @@
 -- Playing what is left of a recording, from one opening to the next.
-use Rattle.std.proofs.Common.{◌≡◌, ℕ, ◌+◌, ◌<◌, ◌≤◌, Bool, true, false, List, [], ◌∷◌, ◌++◌, length, drop, Some, None, Option, sym, refl, ap, ◌∙◌, subst, append_assoc, append-nil, arith}
+use Rattle.std.proofs.Common.{◌≡◌, ℕ, ◌+◌, ◌<◌, ◌≤◌, Bool, true, false, List, [], ◌∷◌, ◌++◌, length, drop, Some, None, Option, cond, nat_lt, string_bytes, sym, refl, ap, ◌∙◌, subst, append_assoc, append-nil, arith}
+use Rattle.std.proofs.lemmas.Bool.{ltb-true, ltb-false}
 use Rattle.std.proofs.lemmas.List.{drop_all, drop-drop, length-drop}
 use Rattle.channels.specs.declared.channel.Channel.{Channel}
 use Rattle.recording.specs.Answers.{Tells, silent, opening, Played}
 use Rattle.recording.specs.Kinds.{weighing}
 use Rattle.recording.specs.Lines.{opened_line, written, all_written, fault_written}
-use Rattle.recording.specs.Playing.{CallsAfter}
+use Rattle.recording.specs.Playing.{rest, finished, Plays, Begun, Read, CallsAfter, PlaysCalls}
+use Rattle.recording.specs.declared.player.Player.{Player}
 use Rattle.records.specs.Recordings.{may_stand, Next, Spells, ends, faults, says}
 use Rattle.records.specs.Records.{Said, opens, Begins}
 use Rattle.records.specs.declared.record.Kind.{Kind}
@@ -104,3 +106,54 @@ module _ (known : Openings) (bytes : List ℕ) where
                   ∙ sym (append_assoc line (all_written (f.lines ++ left.lines)) (fault_written left.fault));
             }));
       }
+
+  -- what is read of a player of these bytes is read of them
+  pub of_bytes : (P : Openings → List ℕ → Type 0) (p : Player) → Plays known bytes p → P p.known (rest p) → P known (drop p.at bytes)
+  of_bytes P p i r = subst (λ b. P known (drop p.at b)) i.bytes (subst (λ k. P k (rest p)) i.known r)
+
+  -- how far a player of these bytes has come
+  pub record Playing_by (p : Player) : Type 0 where
+    pub plays : Plays known bytes p
+    pub playing : Playing p.at (string_bytes p.lines)
+
+  pub begun_by : (p : Player) → Begun known bytes p → Playing_by p
+  begun_by p b =
+      record {
+        plays = b.plays;
+        playing = subst (λ n. Playing n (string_bytes p.lines)) (sym b.at) (subst (λ t. Playing 0 t) (sym b.lines) playing_begun);
+      }
+
+  -- an opening and the calls after it are played
+  pub after_by : (p q r : Player) (channel : Channel) (kind : Kind) → Playing_by p → Read channel kind p q → PlaysCalls (weighing kind) channel q r → Playing_by r
+  after_by p q r channel kind i o h =
+      let After = CallsAfter (weighing kind) in
+      let line = written (opened_line channel) in
+      let made = string_bytes r.lines in
+      let knows = o.same.known ∙ i.plays.known in
+      let whole = o.same.bytes ∙ i.plays.bytes in
+      let after : After known channel bytes (p.at + 4) (string_bytes p.lines ++ line) r.at made =
+      subst (λ k. After k channel bytes (p.at + 4) (string_bytes p.lines ++ line) r.at made) knows
+      (subst (λ b. After q.known channel b (p.at + 4) (string_bytes p.lines ++ line) r.at made) whole
+      (subst (λ n. After q.known channel q.bytes.now n (string_bytes p.lines ++ line) r.at made) o.at
+      (subst (λ t. After q.known channel q.bytes.now q.at (string_bytes t ++ line) r.at made) o.lines h.after))) in
+      record {
+        plays = record { known = h.same.known ∙ knows; bytes = h.same.bytes ∙ whole };
+        playing =
+            playing_after p.at r.at channel kind (string_bytes p.lines) made i.playing
+            (of_bytes (λ k b. Begins k b (opens channel kind)) p i.plays o.begins) after;
+      }
+
+  -- where no opening comes next, the lines with that of the fault are the whole
+  finished_so : (p : Player) → Playing_by p → ((s : Said) → Next p.known false (rest p) s → ⊥) → (more : Bool) → nat_lt p.at (length bytes) ≡ more →
+      Played known bytes (string_bytes p.lines ++ cond more (fault_written (Some p.at)) [])
+  finished_so p i none true e =
+      playing_fault p.at (string_bytes p.lines) i.playing (ltb-true p.at (length bytes) e)
+      (of_bytes (λ k b. (s : Said) → Next k false b s → ⊥) p i.plays none)
+  finished_so p i none false e =
+      subst (λ t. Played known bytes t) (sym (append-nil (string_bytes p.lines)))
+      (playing_done p.at (string_bytes p.lines) i.playing (ltb-false p.at (length bytes) e))
+
+  pub finished_by : (p : Player) → Playing_by p → ((s : Said) → Next p.known false (rest p) s → ⊥) → Played known bytes (finished p)
+  finished_by p i none =
+      subst (λ b. Played known bytes (string_bytes p.lines ++ cond (nat_lt p.at (length b)) (fault_written (Some p.at)) [])) (sym i.plays.bytes)
+      (finished_so p i none (nat_lt p.at (length bytes)) refl)

@@ -1,5 +1,5 @@
 -- What the parts of playing make, from one place of the recording to another. Only private functions cite this file.
-use Rattle.std.specs.Prelude.{◌≡◌, ℕ, ◌≤◌, Bool, true, false, List, [], ◌++◌, map, length, drop, Some, None, Option, Result}
+use Rattle.std.specs.Prelude.{◌≡◌, ℕ, ◌+◌, ◌≤◌, cond, nat_lt, string_bytes, Bool, true, false, List, [], ◌++◌, map, length, drop, Some, None, Option, Result}
 use Rattle.channels.specs.Channels.{Tuned}
 use Rattle.channels.specs.Layings.{laying_line}
 use Rattle.channels.specs.declared.channel.Channel.{Channel}
@@ -11,7 +11,8 @@ use Rattle.link.specs.declared.receiver.Receiver.{Receiver}
 use Rattle.link.specs.declared.refusal.Refusal.{Refusal}
 use Rattle.recording.specs.Answers.{Goes}
 use Rattle.recording.specs.Kinds.{Weighing}
-use Rattle.recording.specs.Lines.{answer_line, stolen_line, restarted_line, written, all_written}
+use Rattle.recording.specs.Lines.{opened_line, fault_written, answer_line, stolen_line, restarted_line, written, all_written}
+use Rattle.recording.specs.declared.player.Player.{Player}
 use Rattle.records.specs.Recordings.{may_stand, Next, Spells}
 use Rattle.records.specs.Records.{Said, opens, hears, misses, steals, restarts, spelling, Begins}
 use Rattle.stations.specs.Stations.{memory, HearsHere, MissesHere, RestartsHere}
@@ -19,10 +20,40 @@ use Rattle.records.specs.declared.record.Kind.{Kind}
 use Rattle.records.specs.declared.record.Openings.{Openings}
 use Rattle.stations.specs.declared.station.Station.{Station}
 
--- what reading an opening answers
-abbrev pub ReadsOpening : Openings → List ℕ → Option (Channel × Kind × ℕ) → Type 0
-ReadsOpening known bytes (Some (channel, kind, taken)) = Begins known bytes (opens channel kind) × (taken ≡ length (spelling (opens channel kind)))
-ReadsOpening known bytes None = (s : Said) → Next known false bytes s → ⊥
+-- what has not been played yet
+abbrev pub rest : Player → List ℕ
+rest p = drop p.at p.bytes.now
+
+-- the lines, with that of the fault where not all has been played
+abbrev pub finished : Player → List ℕ
+finished p = string_bytes p.lines ++ cond (nat_lt p.at (length p.bytes.now)) (fault_written (Some p.at)) []
+
+-- these bytes are played, and these openings are known
+pub record Plays (openings : Openings) (whole : List ℕ) (p : Player) : Type 0 where
+  pub known : p.known ≡ openings
+  pub bytes : p.bytes.now ≡ whole
+
+-- the same as before
+abbrev pub Same : Player → Player → Type 0
+Same p p' = Plays p.known p.bytes.now p'
+
+-- nothing has been played yet
+pub record Begun (openings : Openings) (whole : List ℕ) (p : Player) : Type 0 where
+  pub plays : Plays openings whole p
+  pub at : p.at ≡ 0
+  pub lines : string_bytes p.lines ≡ []
+
+-- the opening that comes next has been read
+pub record Read (channel : Channel) (kind : Kind) (p p' : Player) : Type 0 where
+  pub same : Same p p'
+  pub begins : Begins p.known (rest p) (opens channel kind)
+  pub at : p'.at ≡ p.at + length (spelling (opens channel kind))
+  pub lines : p'.lines ≡ p.lines
+
+-- or none comes next
+abbrev pub Opens : Player → Option (Channel × Kind) → Player → Type 0
+Opens p (Some (channel, kind)) p' = Read channel kind p p'
+Opens p None p' = ((s : Said) → Next p.known false (rest p) s → ⊥) × (p' ≡ p)
 
 -- a kind of cost, with its samples and figures
 abbrev pub weighed : {C S P : Type 0} → cost.Ghosts C S P → (ℕ → S) → (C → List ℕ) → Weighing
@@ -84,3 +115,8 @@ module _ (w : Weighing) where
     pub within : stop ≤ length bytes
     -- what comes next is no call
     pub stops : (s : Said) → Begins known (drop stop bytes) s → may_stand false s ≡ true
+
+  -- they have been played, and the line of the opening before them
+  pub record PlaysCalls (channel : Channel) (p p' : Player) : Type 0 where
+    pub same : Same p p'
+    pub after : CallsAfter p.known channel p.bytes.now p.at (string_bytes p.lines ++ written (opened_line channel)) p'.at (string_bytes p'.lines)

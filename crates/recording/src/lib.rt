@@ -3,5 +3,6 @@
 
 mod figures;
 pub mod play;
+mod player;
 mod printed;
 mod sample;

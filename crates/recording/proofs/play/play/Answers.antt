@@ -1,48 +1,31 @@
-use Rattle.std.proofs.Common.{◌+◌, ◌++◌, Some, None, string_bytes, sym, ap, ◌∙◌, subst, arith}
+use Rattle.std.proofs.Common.{◌≡◌, length, string_bytes, sym, ap, ◌∙◌, subst, arith}
+use Rattle.std.proofs.lemmas.Result.{IfOk-weaker}
 use Rattle.recording.specs.Answers.{Played}
-use Rattle.recording.specs.Kinds.{weighing}
-use Rattle.recording.specs.Lines.{opened_line, written}
-use Rattle.recording.specs.Playing.{CallsAfter, ReadsOpening}
-use Rattle.records.proofs.Fronts.{on_rest}
-use Rattle.recording.proofs.Playing.{Playing, playing_begun, playing_after, playing_done, playing_fault}
+use Rattle.recording.specs.Playing.{finished}
+use Rattle.recording.proofs.Playing.{begun_by, after_by, finished_by}
 use Rattle.recording.proofs.play.play.Goals as goal
-use Rattle.recording.proofs.play.play.Goals.{else-loop-at-test, then-loop-at-test+in_default+in_ok-put}
 
-pub loop-at-init : goal.loop-at-init
-loop-at-init c = subst (λ t. Playing c.args.known c.args.bytes.now 0 t) (sym c.new-lines.ensures.bytes) (playing_begun c.args.known c.args.bytes.now)
+pub loop-channel-init : goal.loop-channel-init
+loop-channel-init c = begun_by c.args.known c.args.bytes.now c.new-player.result c.new-player.ensures
 
-pub loop-at-preserved : goal.loop-at-preserved
-loop-at-preserved c =
-    let bytes = c.args.bytes.now in
-    let at = c.loop-at.at in
-    let stop = c.in_ok-at.at in
-    let channel = c.in-Some.channel in
-    let kind = c.in-Some.kind in
-    let before = string_bytes c.loop-at.lines in
-    let after = string_bytes c.play_opening.new.lines in
-    let found = on_rest (λ b. ReadsOpening c.args.known b (Some (channel, kind, c.in-Some.taken))) at bytes c.in-Some.ensures in
-    playing_after c.args.known bytes at stop channel kind before after c.loop-at.invariant found.0
-    (subst (λ n. CallsAfter (weighing kind) c.args.known channel bytes (at + n) (before ++ written (opened_line channel)) stop after) found.1 c.in_ok-at.ensures)
+pub loop-channel-preserved : goal.loop-channel-preserved
+loop-channel-preserved c =
+    after_by c.args.known c.args.bytes.now c.loop-channel.player c.opening.new.self c.play_opened.new.self c.in-Some.channel c.in-Some.kind
+    c.loop-channel.invariant c.in-Some.ensures c.in_ok-play_opened.ensures
 
-pub loop-at-smaller : goal.loop-at-smaller
-loop-at-smaller c =
-    let bytes = c.args.bytes.now in
-    let found = on_rest (λ b. ReadsOpening c.args.known b (Some (c.in-Some.channel, c.in-Some.kind, c.in-Some.taken))) c.loop-at.at bytes c.in-Some.ensures in
-    let h = c.in_ok-at.ensures.forward in
-    let t = c.loop-at-test.true in
-    omega (arith, found.1)
+pub loop-channel-smaller : goal.loop-channel-smaller
+loop-channel-smaller c =
+    let o = c.in-Some.ensures in
+    let h = c.in_ok-play_opened.ensures in
+    let f = h.after.forward in
+    let w = h.after.within in
+    omega (arith, o.at, f, w, ap length h.same.bytes, ap length o.same.bytes)
 
 pub returns : goal.returns
 returns c =
+    let known = c.args.known in
     let bytes = c.args.bytes.now in
-    let at = c.loop-at.at in
-    let so_far = string_bytes c.loop-at.lines in
-    elim c.loop-at-test.branch [
-      | else-loop-at-test w ↦
-          subst (λ s. Played c.args.known bytes (string_bytes s)) (sym w.lines-is) (playing_done c.args.known bytes at so_far c.loop-at.invariant w.loop-at-test.false)
-      | then-loop-at-test+in_default+in_ok-put w ↦
-          let none = on_rest (λ b. ReadsOpening c.args.known b None) at bytes w.in_default.ensures in
-          subst (λ t. Played c.args.known bytes t)
-          (sym (ap string_bytes w.lines-is ∙ w.in_ok-put.ensures))
-          (playing_fault c.args.known bytes at so_far c.loop-at.invariant w.loop-at-test.true none)
-    ]
+    let none = c.in_default.ensures in
+    let whole = finished_by known bytes c.loop-channel.player c.loop-channel.invariant none.0 in
+    IfOk-weaker c.finish.result (λ made. string_bytes made ≡ finished c.opening.new.self) (λ made. Played known bytes (string_bytes made))
+    (λ made e. subst (λ t. Played known bytes t) (sym (e ∙ ap finished none.1)) whole) c.finish.ensures

@@ -1,9 +1,9 @@
-use Rattle.std.proofs.Common.{◌-◌, length, string_bytes}
-use Rattle.recording.proofs.Playing.{Playing}
+use Rattle.std.proofs.Common.{◌-◌, length}
+use Rattle.recording.proofs.Playing.{Playing_by}
 use Rattle.recording.proofs.play.play.Given as goal
 
-abbrev pub invariant-loop-at : goal.invariant-loop-at
-invariant-loop-at l = Playing l.known l.bytes l.at (string_bytes l.lines)
+abbrev pub invariant-loop-channel : goal.invariant-loop-channel
+invariant-loop-channel l = Playing_by l.fn.known l.fn.bytes l.player
 
-abbrev pub decreases-loop-at : goal.decreases-loop-at
-decreases-loop-at l = length l.bytes - l.at
+abbrev pub decreases-loop-channel : goal.decreases-loop-channel
+decreases-loop-channel l = length l.player.bytes.now - l.player.at

@@ -2,7 +2,7 @@ use Rattle.std.proofs.Common.{◌≡◌, string_bytes, sym, refl, subst}
 use Rattle.recording.specs.Lines.{restarted_line}
 use Rattle.recording.specs.Playing.{weighed, Wrote}
 use Rattle.records.specs.Records.{said}
-use Rattle.recording.proofs.play.answer.Goals as goal
+use Rattle.recording.proofs.player.plays.answer.Goals as goal
 
 pub returns-in_ok-put-in-Restart : goal.returns-in_ok-put-in-Restart
 returns-in_ok-put-in-Restart g c =

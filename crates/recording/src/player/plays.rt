@@ -1,0 +1,134 @@
+// What playing does, from one record of a recording to the next.
+ghost use Rattle.std.specs.Prelude.{◌≡◌, ◌++◌, IfOk, OnOk, string_bytes};
+ghost use Rattle.recording.specs.Kinds.{weighing};
+ghost use Rattle.recording.specs.Lines.{written};
+ghost use Rattle.recording.specs.Made.{text};
+ghost use Rattle.recording.specs.Playing.{weighed, rest, finished, Begun, Opens, PlaysCalls, Turns};
+ghost use Rattle.records.specs.Records.{said, Reads};
+
+use super::Player;
+use crate::figures::Figured;
+use crate::printed::{Bits, Line};
+use crate::sample::{Spelt, samples};
+use channels::channel::Channel;
+use cost::count::Count;
+use cost::ranked::Ranked;
+use link::refusal::Refusal;
+use records::read::next_record;
+use records::record::{Kind, Openings, Record};
+use stations::station::Station;
+use std::alloc::{AllocError, Global};
+
+impl<'a> Player<'a> {
+    pub(crate) fn new(heap: Global, known: Openings, bytes: &'a [u8]) -> Player<'a>
+        ensures { Begun known bytes.now result }
+    {
+        Player {
+            heap,
+            known,
+            bytes,
+            at: 0,
+            lines: String::new(heap),
+        }
+    }
+
+    fn next(&self) -> Option<(Record<'a>, usize)>
+        ensures { Reads self.now.known (rest self.now) result }
+    {
+        next_record(self.known, &self.bytes[self.at..])
+    }
+
+    // Reads the opening that comes next, if one does.
+    pub(crate) fn opening(&mut self) -> Option<(Channel, Kind)>
+        ensures { Opens self.old result self.new }
+    {
+        let Some((Record::Open { channel, kind }, taken)) = self.next() else {
+            return None;
+        };
+        self.at += taken;
+        Some((channel, kind))
+    }
+
+    // Plays the calls that follow an opening.
+    pub(crate) fn play_opened(&mut self, channel: Channel, kind: Kind) -> Result<(), AllocError>
+        ensures { OnOk result (PlaysCalls (weighing kind) channel self.old self.new) }
+    {
+        match kind {
+            Kind::Count => self.play_calls::<Count>(channel),
+            Kind::Ranked => self.play_calls::<Ranked>(channel),
+        }
+    }
+
+    fn play_calls<C: Figured>(&mut self, channel: Channel) -> Result<(), AllocError>
+    where
+        C::Sample: Spelt,
+        ensures { OnOk result (PlaysCalls (weighed C.Cost C.Sample.Spelt.spelt C.Figured.figures) channel self.old self.new) }
+    {
+        put(&mut self.lines, &Line::<Bits<'_>, C>::Opened(channel))?;
+        let mut station = Station::<C>::open(self.heap, channel)?;
+        while let Some((record, taken)) = self.next() {
+            if !answer(self.heap, &mut station, record, &mut self.lines)? {
+                break;
+            }
+            self.at += taken;
+        }
+        Ok(())
+    }
+
+    // The lines, with that of the fault where not all has been played.
+    pub(crate) fn finish(self) -> Result<String, AllocError>
+        ensures { IfOk result (λ made. string_bytes made ≡ finished self.entry) }
+    {
+        let Player {
+            bytes,
+            at,
+            mut lines,
+            ..
+        } = self;
+        if at < bytes.len() {
+            let fault = Refusal::BadRecord { offset: at };
+            put(&mut lines, &Line::<Bits<'_>, Count>::Refused(fault))?;
+        }
+        Ok(lines)
+    }
+}
+
+// Makes the call that the record asks for, and writes the line of its answer. An opening is no call, and the answer is false.
+fn answer<C: Figured>(
+    heap: Global,
+    station: &mut Station<C>,
+    record: Record<'_>,
+    lines: &mut String,
+) -> Result<bool, AllocError>
+where
+    C::Sample: Spelt,
+    ensures { IfOk result (λ called. Turns (weighed C.Cost C.Sample.Spelt.spelt C.Figured.figures) (said «record».entry) station.old (string_bytes lines.old) called station.new (string_bytes lines.new)) }
+{
+    match record {
+        Record::Open { .. } => return Ok(false),
+        Record::Hear(bytes) => {
+            let heard = samples::<C::Sample>(heap, bytes)?;
+            let reply = station.hear(&heard);
+            let message = Bits(station.message());
+            put(lines, &Line::Answered(reply, message))?;
+        }
+        Record::Miss => {
+            let reply = station.miss();
+            let message = Bits(station.message());
+            put(lines, &Line::Answered(reply, message))?;
+        }
+        Record::Stolen => put(lines, &Line::Stolen(station.stolen()))?,
+        Record::Restart => {
+            station.restart();
+            put(lines, &Line::<Bits<'_>, C>::Restarted)?;
+        }
+    }
+    Ok(true)
+}
+
+// Writes the line with its end.
+fn put<C: Figured>(lines: &mut String, line: &Line<Bits<'_>, C>) -> Result<(), AllocError>
+    ensures { OnOk result (string_bytes lines.new ≡ string_bytes lines.old ++ written (text C.Figured.figures line.now)) }
+{
+    writeln!(lines, "{line}")
+}
