@@ -1,6 +1,7 @@
 -- Playing what is left of a recording, from one opening to the next.
 use Rattle.std.proofs.Common.{◌≡◌, ℕ, ◌+◌, ◌<◌, ◌≤◌, Bool, true, false, List, [], ◌∷◌, ◌++◌, length, drop, Some, None, Option, cond, nat_lt, string_bytes, sym, refl, ap, ◌∙◌, subst, append_assoc, append-nil, arith}
 use Rattle.std.proofs.lemmas.Bool.{ltb-true, ltb-false}
+use Rattle.std.proofs.lemmas.List.Concat.{flat_map-append}
 use Rattle.std.proofs.lemmas.List.{drop_all, drop-drop, length-drop}
 use Rattle.channels.specs.declared.channel.Channel.{Channel}
 use Rattle.recording.specs.Answers.{Tells, silent, opening, Played}
@@ -12,11 +13,6 @@ use Rattle.records.specs.Recordings.{may_stand, Next, Spells, ends, faults, says
 use Rattle.records.specs.Records.{Said, opens, Begins}
 use Rattle.records.specs.declared.record.Kind.{Kind}
 use Rattle.records.specs.declared.record.Openings.{Openings}
-
--- lines after others are written after them
-all_written_more : (xs ys : List (List ℕ)) → all_written (xs ++ ys) ≡ all_written xs ++ all_written ys
-all_written_more [] ys = refl
-all_written_more (x ∷ xs) ys = ap (λ t. written x ++ t) (all_written_more xs ys) ∙ sym (append_assoc (written x) (all_written xs) (all_written ys))
 
 -- an opening may stand anywhere
 opening_stands : (opened : Bool) (channel : Channel) (kind : Kind) → may_stand opened (opens channel kind) ≡ true
@@ -102,7 +98,7 @@ module _ (known : Openings) (bytes : List ℕ) where
                   ap (λ t. line ++ t)
                   (ap (λ t. t ++ made) f.shown ∙ ap (λ t. all_written f.lines ++ t) left.shown
                   ∙ sym (append_assoc (all_written f.lines) (all_written left.lines) (fault_written left.fault))
-                  ∙ ap (λ t. t ++ fault_written left.fault) (sym (all_written_more f.lines left.lines)))
+                  ∙ ap (λ t. t ++ fault_written left.fault) (sym (flat_map-append written f.lines left.lines)))
                   ∙ sym (append_assoc line (all_written (f.lines ++ left.lines)) (fault_written left.fault));
             }));
       }

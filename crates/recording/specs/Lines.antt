@@ -1,5 +1,6 @@
 -- The lines that tell what was answered.
 use Rattle.std.specs.Prelude.{ℕ, List, [], ◌∷◌, ◌++◌, take, Some, None, Ok, Err, codes, decimal, Option, Result}
+use Rattle.std.specs.List.{flat_map}
 use Rattle.channels.specs.Bytes.{channel_byte}
 use Rattle.channels.specs.declared.channel.Channel.{Channel}
 use Rattle.cost.specs.declared.count.Count.{Count}
@@ -11,8 +12,7 @@ use Rattle.link.specs.declared.report.Answer.TheVariants.{Waiting, Block}
 
 -- bits, one after the other
 abbrev pub bits : List ℕ → List ℕ
-bits [] = []
-bits (bit ∷ more) = decimal bit ++ bits more
+bits = flat_map decimal
 
 -- words with a blank between any two
 abbrev pub words : List (List ℕ) → List ℕ
@@ -52,8 +52,7 @@ written line = line ++ (10 ∷ [])
 
 -- lines one after the other
 abbrev pub all_written : List (List ℕ) → List ℕ
-all_written [] = []
-all_written (line ∷ lines) = written line ++ all_written lines
+all_written = flat_map written
 
 -- the line of the fault, if there is one
 abbrev pub fault_written : Option ℕ → List ℕ
