@@ -1,5 +1,5 @@
 -- The calls after an opening, played one after the other: the history goes on with each, and its line is written.
-use Rattle.std.proofs.Common.{◌≡◌, ℕ, ◌+◌, ◌≤◌, true, false, List, [], ◌∷◌, ◌++◌, map, length, drop, None, string_bytes, sym, refl, ap, ◌∙◌, subst, append_assoc, append-nil, arith}
+use Rattle.std.proofs.Common.{◌≡◌, ℕ, ◌+◌, ◌≤◌, true, false, List, [], ◌∷◌, ◌++◌, map, length, drop, None, string_bytes, sym, refl, ap, ◌∙◌, subst, append_assoc, append-nil, arith, length-take}
 use Rattle.std.proofs.lemmas.List.{drop-drop, length-drop}
 use Rattle.std.proofs.lemmas.Bool.{le-leb}
 use Rattle.channels.specs.Channels.{Tuned}
@@ -22,7 +22,10 @@ use Rattle.records.specs.Recordings.{may_stand, Spells, says}
 use Rattle.records.specs.Records.{Said, opens, hears, misses, steals, restarts, spelling, Begins}
 use Rattle.stations.specs.Stations.{memory}
 use Rattle.stations.specs.declared.station.Station.{Station}
-use Rattle.records.proofs.Fronts.{begins_within}
+
+-- a record is no longer than the bytes that begin with it
+begins_within : (known : Openings) (bytes : List ℕ) (s : Said) → Begins known bytes s → length (spelling s) ≤ length bytes
+begins_within known bytes s b = omega (arith, length-take (length (spelling s)) bytes, ap length b.spelt)
 
 -- memory of the sizes needed is enough
 needed_enough : {C S P L : Type 0} (f : Format L) → first (memory_rules {C = C} {S = S} {P = P} f (needed f)) ≡ None

@@ -35,9 +35,10 @@ fn opened<'a>(known: Openings, channel: u8, kind: u8) -> Option<(Record<'a>, usi
 fn heard<'a>(known: Openings, high: u8, low: u8, rest: &'a [u8]) -> Option<(Record<'a>, usize)>
     ensures { Reads known (0x48 ∷ 0x45 ∷ high ∷ low ∷ rest.now) result }
 {
-    let count = high as usize * 256 + low as usize;
-    if count > MOST || count > rest.len() {
+    let count = usize::from(u16::from_be_bytes([high, low]));
+    if count > MOST {
         return None;
     }
-    Some((Record::Hear(&rest[..count]), 4 + count))
+    let samples = rest.get(..count)?;
+    Some((Record::Hear(samples), 4 + count))
 }

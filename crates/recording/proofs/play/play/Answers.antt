@@ -1,25 +1,14 @@
-use Rattle.std.proofs.Common.{◌≡◌, length, string_bytes, sym, ap, ◌∙◌, subst, arith}
+use Rattle.std.proofs.Common.{◌≡◌, string_bytes, sym, ap, ◌∙◌, subst}
 use Rattle.std.proofs.lemmas.Result.{IfOk-weaker}
 use Rattle.recording.specs.Answers.{Played}
 use Rattle.recording.specs.Playing.{finished}
-use Rattle.recording.proofs.Playing.{begun_by, after_by, finished_by}
+use Rattle.recording.proofs.Playing.{after_by, finished_by}
 use Rattle.recording.proofs.play.play.Goals as goal
-
-pub loop-channel-init : goal.loop-channel-init
-loop-channel-init c = begun_by c.args.known c.args.bytes.now c.new-player.result c.new-player.ensures
 
 pub loop-channel-preserved : goal.loop-channel-preserved
 loop-channel-preserved c =
     after_by c.args.known c.args.bytes.now c.loop-channel.player c.opening.new.self c.play_opened.new.self c.in-Some.channel c.in-Some.kind
     c.loop-channel.invariant c.in-Some.ensures c.in_ok-play_opened.ensures
-
-pub loop-channel-smaller : goal.loop-channel-smaller
-loop-channel-smaller c =
-    let o = c.in-Some.ensures in
-    let h = c.in_ok-play_opened.ensures in
-    let f = h.after.forward in
-    let w = h.after.within in
-    omega (arith, o.at, f, w, ap length h.same.bytes, ap length o.same.bytes)
 
 pub returns : goal.returns
 returns c =

@@ -1,11 +1,9 @@
-use Rattle.std.proofs.Common.{◌≡◌, ◌+◌, ◌++◌, true, false, Some, None, string_bytes, sym, refl, ap, ◌∙◌, subst, arith}
-use Rattle.std.proofs.lemmas.List.{length-drop}
+use Rattle.std.proofs.Common.{◌≡◌, ◌+◌, ◌++◌, true, false, Some, string_bytes, sym, refl, subst}
 use Rattle.recording.specs.Lines.{opened_line, written}
-use Rattle.recording.specs.Playing.{weighed, rest, Wrote, Turns, PlaysCalls}
+use Rattle.recording.specs.Playing.{weighed, Wrote, Turns, PlaysCalls}
 use Rattle.records.specs.Recordings.{may_stand}
 use Rattle.records.specs.Records.{said, Reads}
 use Rattle.stations.specs.Stations.{memory}
-use Rattle.records.proofs.Fronts.{begins_within, spelling_some}
 use Rattle.recording.proofs.Going.{Going, going_begun, going_after, calls_after}
 use Rattle.recording.proofs.Playing.{of_bytes}
 use Rattle.recording.proofs.player.Player.play_calls.Goals as goal
@@ -46,14 +44,6 @@ loop-record-preserved g c =
           (going_after w p.known first.receiver p.bytes.now p.at (memory first) c.in_ok-station.ensures.tuned.opened.histories s s' q.at before text text'
           says found.0 i.going wrote);
     }
-
-pub loop-record-smaller : goal.loop-record-smaller
-loop-record-smaller g c =
-    let q = c.loop-record.self in
-    let says = said c.in-Some.record in
-    let found = c.in-Some.ensures in
-    let h = q.within in
-    omega (arith, begins_within q.known (rest q) says found.0, spelling_some says, found.1, length-drop q.at q.bytes.now)
 
 pub returns : goal.returns
 returns g c =

@@ -1,4 +1,4 @@
-use Rattle.std.proofs.Common.{◌≡◌, string_bytes, sym, refl, subst}
+use Rattle.std.proofs.Common.{string_bytes, sym, refl, subst}
 use Rattle.recording.specs.Lines.{restarted_line}
 use Rattle.recording.specs.Playing.{weighed, Wrote}
 use Rattle.records.specs.Records.{said}
