@@ -52,7 +52,8 @@ module _ (w : Weighing) (known : Openings) (opened : Receiver w.C Laying w.S w.P
 
   -- memory so large is enough
   enough : (m : Memory w.S w.P) → sizes m ≡ needed opened.format → Enough w opened m
-  enough m e = subst (λ z. first (memory_rules {C = w.C} {S = w.S} {P = w.P} opened.format z) ≡ None) (sym e) (needed_enough opened.format)
+  enough m e =
+      record { room = e; rules = subst (λ z. first (memory_rules {C = w.C} {S = w.S} {P = w.P} opened.format z) ≡ None) (sym e) (needed_enough opened.format) }
 
   -- a call goes on with them
   goes_on : (r r' : Receiver w.C Laying w.S w.P) (m m' : Memory w.S w.P) (at : ℕ) (before text text' : List ℕ) (s : Said) (line : List ℕ)
@@ -148,7 +149,7 @@ module _ (w : Weighing) (known : Openings) (opened : Receiver w.C Laying w.S w.P
       Follows w known opened bytes opened m₀ [] (begun m₀.ring) start at g.so_far
   going_done r m at before text g =
       subst (λ t. Follows w known opened bytes opened m₀ [] (begun m₀.ring) start at t) (append-nil g.so_far)
-      (g.gives at [] (record { since = []; lines = []; goes = ends r m g.bursts g.history; spelt = λ records fault left. left; shown = refl }))
+      (g.gives at [] (record { since = []; lines = []; goes = ends r m g.bursts g.history (enough m g.room); spelt = λ records fault left. left; shown = refl }))
 
 -- before the first call
 pub going_begun : (w : Weighing) (known : Openings) (bytes : List ℕ) (start : ℕ) (s : Station w.C w.S w.P) (before : List ℕ) →

@@ -6,7 +6,7 @@ use Rattle.channels.specs.declared.channel.Channel.{Channel}
 use Rattle.channels.specs.declared.laying.Laying.{Laying}
 use Rattle.link.specs.Calls.{Memory, sizes, Reply, Hears, Misses, Steals, Restarts, silence}
 use Rattle.link.specs.Histories.{History, begun, heard, missed, stole, restarted, counting, Sound}
-use Rattle.link.specs.Rules.{first, memory_rules, hear_rules, miss_rules}
+use Rattle.link.specs.Rules.{first, memory_rules, needed, hear_rules, miss_rules}
 use Rattle.link.specs.declared.receiver.Receiver.{Receiver}
 use Rattle.link.specs.declared.refusal.Refusal.{Refusal}
 use Rattle.recording.specs.Kinds.{Weighing, weighing}
@@ -17,15 +17,16 @@ use Rattle.records.specs.declared.record.Kind.{Kind}
 use Rattle.records.specs.declared.record.Openings.{Openings}
 
 module _ (w : Weighing) (opened : Receiver w.C Laying w.S w.P) where
-  -- the memory lent is as much as is needed
-  abbrev pub Enough : Memory w.S w.P → Type 0
-  Enough m = first (memory_rules {C = w.C} {S = w.S} {P = w.P} opened.format (sizes m)) ≡ None
+  -- the memory lent is what is needed, and that is enough
+  pub record Enough (m : Memory w.S w.P) : Type 0 where
+    pub room : sizes m ≡ needed opened.format
+    pub rules : first (memory_rules {C = w.C} {S = w.S} {P = w.P} opened.format (sizes m)) ≡ None
 
   -- the history of the receiver opened goes on by the calls that these records make, and these lines tell the answers
   pub data Goes : (r : Receiver w.C Laying w.S w.P) (m : Memory w.S w.P) (bursts : List (List w.S)) →
       History w.kind laying_line opened r m.ring bursts → List Said → List (List ℕ) → Type 0 where
     ends : (r : Receiver w.C Laying w.S w.P) (m : Memory w.S w.P) (bursts : List (List w.S))
-        (h : History w.kind laying_line opened r m.ring bursts) → Goes r m bursts h [] []
+        (h : History w.kind laying_line opened r m.ring bursts) → Enough m → Goes r m bursts h [] []
     -- a burst heard, the samples being those that its bytes spell: the answer is sound
     hearing : (r r' : Receiver w.C Laying w.S w.P) (m m' : Memory w.S w.P) (bursts : List (List w.S))
         (h : History w.kind laying_line opened r m.ring bursts) (bytes : List ℕ) (reply : Reply w.kind laying_line)

@@ -10,6 +10,7 @@ use link::refusal::Refusal;
 use link::report::Answer;
 use std::fmt;
 
+// The message has a type parameter, since no enum may yet hold both a reference and a cost.
 #[derive(Clone, Copy)]
 pub enum Line<M, C: Cost> {
     Opened(Channel),

@@ -64,7 +64,7 @@ impl<'a> Player<'a> {
         C::Sample: Spelt,
         ensures { OnOk result (PlaysCalls (weighed C.Cost C.Sample.Spelt.spelt C.Figured.figures) channel self.old self.new) }
     {
-        put(&mut self.lines, &Line::<Bits<'_>, C>::Opened(channel))?;
+        put::<C>(&mut self.lines, &Line::Opened(channel))?;
         let mut station = Station::<C>::open(self.heap, channel)?;
         while let Some((record, taken)) = self.next() {
             if !answer(self.heap, &mut station, record, &mut self.lines)? {
@@ -87,7 +87,7 @@ impl<'a> Player<'a> {
         } = self;
         if at < bytes.len() {
             let fault = Refusal::BadRecord { offset: at };
-            put(&mut lines, &Line::<Bits<'_>, Count>::Refused(fault))?;
+            put::<Count>(&mut lines, &Line::Refused(fault))?;
         }
         Ok(lines)
     }
@@ -120,7 +120,7 @@ where
         Record::Stolen => put(lines, &Line::Stolen(station.stolen()))?,
         Record::Restart => {
             station.restart();
-            put(lines, &Line::<Bits<'_>, C>::Restarted)?;
+            put::<C>(lines, &Line::Restarted)?;
         }
     }
     Ok(true)
