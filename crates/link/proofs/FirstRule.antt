@@ -6,10 +6,11 @@ use Rattle.std.proofs.lemmas.Bool.{leb-true, eqb-true}
 use Rattle.cost.specs.declared.kind.Cost as cost
 use Rattle.cost.proofs.Lawful.{Laws}
 use Rattle.link.specs.declared.format.Format.{Format}
+use Rattle.link.specs.declared.memory.Sizes.{Sizes}
 use Rattle.link.specs.declared.refusal.Refusal.{Refusal}
 use Rattle.link.specs.declared.refusal.Refusal.TheVariants.{UnfitSample}
 use Rattle.link.specs.Refusals.{told}
-use Rattle.link.specs.Rules.{Sizes, first, passed, unless, all_fit, hear_rules, miss_rules}
+use Rattle.link.specs.Rules.{first, passed, unless, all_fit, hear_rules, miss_rules}
 
 module _ {X : Type 0} where
   -- what is told, if anything is, has the property

@@ -1,10 +1,10 @@
 -- A call does what its rules say: refused by the first that is broken, else its burst is taken in.
-use Rattle.std.proofs.Common.{◌≡◌, ℕ, List, Some, None, Ok, Err, Option, refl, ap, ◌∙◌, arith}
+use Rattle.std.proofs.Common.{◌≡◌, ℕ, List, Some, None, Ok, Err, Option, sym, refl, ap, subst, ◌∙◌, arith}
 use Rattle.cost.specs.declared.kind.Cost as cost
 use Rattle.line.specs.declared.laying.Line as line
 use Rattle.link.specs.declared.receiver.Receiver.{Receiver}
 use Rattle.link.specs.declared.refusal.Refusal.{Refusal}
-use Rattle.link.specs.Calls.{Memory, lent, Reply, Counts, Judges}
+use Rattle.link.specs.Calls.{Memory, Reply, Counts, Judges}
 use Rattle.link.specs.Due.{stored}
 use Rattle.link.specs.Rules.{passed}
 
@@ -15,8 +15,11 @@ module _ {C S P L : Type 0} (k : cost.Ghosts C S P) (l : line.Ghosts L) (samples
   judges_refused (Some y) x e h = let same : x ≡ y = cc in record { replied = h ∙ ap Err same; receiver = refl; memory = refl }
 
   -- where the checks pass, the call that stores the burst and then counts it takes it in
-  pub judges_taken : (rules : Option (Refusal C S P)) (r' : Receiver C L S P) (m' : Memory S P) → Ok tt ≡ passed rules →
-      m'.ring ≡ stored r.format r.counted samples m.ring →
-      Counts k l r (lent m'.ring m.costs m.paths m.block) reply r' m' → Judges k l rules samples r m reply r' m'
-  judges_taken None r' m' e ring counts = record { ring = ring; counts = counts }
-  judges_taken (Some y) r' m' e ring counts = let z : ◌≡◌ {A = ℕ} 0 1 = cc in absurd (omega arith)
+  pub judges_taken : (rules : Option (Refusal C S P)) (ring : List S) (r' : Receiver C L S P) (m' : Memory S P) → Ok tt ≡ passed rules →
+      ring ≡ stored r.format r.counted samples m.ring → m'.ring ≡ ring →
+      Counts k l r (record m { ring = ring }) reply r' m' → Judges k l rules samples r m reply r' m'
+  judges_taken None ring r' m' e is kept counts = record {
+    ring = kept ∙ is;
+    counts = subst (λ z. Counts k l r (record m { ring = z }) reply r' m') (sym kept) counts;
+  }
+  judges_taken (Some y) ring r' m' e is kept counts = let z : ◌≡◌ {A = ℕ} 0 1 = cc in absurd (omega arith)

@@ -8,6 +8,8 @@ use Rattle.trellis.specs.Parity.{remainder}
 use Rattle.trellis.specs.Paths.{cost_of}
 use Rattle.trellis.specs.Rule.{answer}
 use Rattle.link.specs.declared.format.Format.{Format}
+use Rattle.link.specs.declared.memory.Memory as memory
+use Rattle.link.specs.declared.memory.Sizes.{Sizes}
 use Rattle.link.specs.declared.receiver.Receiver.{Receiver}
 use Rattle.link.specs.declared.refusal.Refusal.{Refusal}
 use Rattle.link.specs.declared.refusal.Refusal.TheVariants.{WrongParity}
@@ -15,7 +17,7 @@ use Rattle.link.specs.declared.report.Answer.{Answer}
 use Rattle.link.specs.declared.report.Answer.TheVariants.{Waiting, Block}
 use Rattle.link.specs.declared.report.Report.{Report}
 use Rattle.link.specs.Due.{stored, met_on, in_ring, heard_of}
-use Rattle.link.specs.Rules.{Sizes, first, steps, hear_rules, miss_rules, stolen_rules}
+use Rattle.link.specs.Rules.{first, steps, hear_rules, miss_rules, stolen_rules}
 
 -- the memory lent to a call: the ring, the cost cells, the path record and the block memory
 pub record Memory (S P : Type 0) : Type 0 where
@@ -24,8 +26,15 @@ pub record Memory (S P : Type 0) : Type 0 where
   pub paths : List ℕ
   pub block : List ℕ
 
-abbrev pub lent : {S P : Type 0} → List S → List (Option P) → List ℕ → List ℕ → Memory S P
-lent ring costs paths block = record { ring = ring; costs = costs; paths = paths; block = block }
+abbrev pub lent : {C S P : Type 0} → memory.Memory C S P → Memory S P
+lent m = record { ring = m.ring.now; costs = m.costs.now; paths = m.paths.now; block = m.block.now }
+
+-- both lend the same memory
+pub record SameLoans {C S P : Type 0} (m m' : memory.Memory C S P) : Type 0 where
+  pub ring : m'.ring.ghost_name ≡ m.ring.ghost_name
+  pub costs : m'.costs.ghost_name ≡ m.costs.ghost_name
+  pub paths : m'.paths.ghost_name ≡ m.paths.ghost_name
+  pub block : m'.block.ghost_name ≡ m.block.ghost_name
 
 abbrev pub sizes : {S P : Type 0} → Memory S P → Sizes
 sizes m = record { ring = length m.ring; costs = length m.costs; paths = length m.paths; block = length m.block }
@@ -91,7 +100,7 @@ module _ {C S P L : Type 0} (k : cost.Ghosts C S P) (l : line.Ghosts L) where
   -- a burst is taken in: it is stored, and then counted
   pub record Takes (samples : List S) (r : Receiver C L S P) (m : Memory S P) (reply : Reply) (r' : Receiver C L S P) (m' : Memory S P) : Type 0 where
     pub ring : m'.ring ≡ stored r.format r.counted samples m.ring
-    pub counts : Counts r (lent m'.ring m.costs m.paths m.block) reply r' m'
+    pub counts : Counts r (record m { ring = m'.ring }) reply r' m'
 
   -- by the first rule that is broken
   abbrev pub Judges : Option (Refusal C S P) → List S → Receiver C L S P → Memory S P → Reply → Receiver C L S P → Memory S P → Type 0

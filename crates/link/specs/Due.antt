@@ -1,5 +1,6 @@
 -- Which samples are due to a block, what its coded bits meet there, and how many of them were heard.
-use Rattle.std.specs.Prelude.{ℕ, zero, suc, ◌+◌, ◌*◌, ◌%◌, Bool, cond, List, [], ◌∷◌, ◌++◌, length, take, drop, Some, None, Option, nat_lt, slice_index_or}
+use Rattle.std.specs.Prelude.{ℕ, ◌+◌, ◌*◌, ◌%◌, Bool, cond, not, List, [], ◌∷◌, ◌++◌, length, take, drop, Some, None, Option, nat_lt, slice_index_or, count_by}
+use Rattle.std.specs.List.{range_with_len}
 use Rattle.cost.specs.declared.kind.Cost as cost
 use Rattle.line.specs.declared.laying.Line as line
 use Rattle.trellis.specs.Met.{weighed}
@@ -42,5 +43,4 @@ module _ {C S P L : Type 0} (k : cost.Ghosts C S P) where
 
 -- how many samples at the first n places do not mean nothing
 abbrev pub heard_of : {C S P : Type 0} → cost.Ghosts C S P → (ℕ → S) → ℕ → ℕ
-heard_of k due zero = 0
-heard_of k due (suc n) = heard_of k due n + cond (k.silent (due n)) 0 1
+heard_of k due n = count_by (λ p. not (k.silent (due p))) (range_with_len 0 n)

@@ -3,13 +3,14 @@ use Rattle.std.specs.Prelude.{◌≡◌, Some, None, Ok, Err, Result}
 use Rattle.cost.specs.declared.kind.Cost as cost
 use Rattle.line.specs.declared.laying.Line as line
 use Rattle.link.specs.declared.format.Format.{Format}
+use Rattle.link.specs.declared.proposal.Proposal.{Proposal}
 use Rattle.link.specs.declared.receiver.Receiver.{Receiver}
 use Rattle.link.specs.declared.refusal.Refusal.{Refusal}
 use Rattle.link.specs.Histories.{AllSound}
-use Rattle.link.specs.Rules.{Asked, first, open_rules}
+use Rattle.link.specs.Rules.{first, open_rules}
 
 -- the format has what was asked for, and the burst bits that the line tells
-pub record Holds {L : Type 0} (l : line.Ghosts L) (a : Asked L) (f : Format L) : Type 0 where
+pub record Holds {L : Type 0} (l : line.Ghosts L) (a : Proposal L) (f : Format L) : Type 0 where
   pub code : f.code ≡ a.code
   pub message : f.message ≡ a.message
   pub parity : f.parity ≡ a.parity
@@ -18,11 +19,11 @@ pub record Holds {L : Type 0} (l : line.Ghosts L) (a : Asked L) (f : Format L) :
   pub burst : f.burst ≡ l.sent a.line
 
 -- refused by the first rule that is broken, else agreed
-abbrev pub Agrees : {C S P L : Type 0} → line.Ghosts L → Asked L → Result (Format L) (Refusal C S P) → Type 0
+abbrev pub Agrees : {C S P L : Type 0} → line.Ghosts L → Proposal L → Result (Format L) (Refusal C S P) → Type 0
 Agrees l a (Err x) = first (open_rules l a) ≡ Some x
 Agrees {C} {S} {P} l a (Ok f) = (first (open_rules {C = C} {S = S} {P = P} l a) ≡ None) × Holds l a f
 
-module _ {C S P L : Type 0} (k : cost.Ghosts C S P) (l : line.Ghosts L) (a : Asked L) where
+module _ {C S P L : Type 0} (k : cost.Ghosts C S P) (l : line.Ghosts L) (a : Proposal L) where
   -- a receiver that has counted nothing, and of which every history is sound
   pub record Opened (r : Receiver C L S P) : Type 0 where
     pub rules : first (open_rules {C = C} {S = S} {P = P} l a) ≡ None

@@ -1,11 +1,12 @@
 -- The rules that a call is held against. They stand in the order of their numbers, and the first that is broken refuses the call.
-use Rattle.std.specs.Prelude.{◌≡◌, ℕ, suc, ◌+◌, ◌*◌, ◌^◌, Bool, cond, not, ◌&&◌, ◌||◌, List, [], ◌∷◌, ◌++◌, length, Some, None, Ok, Err, Option, Result, ◌==◌, nat_le, nat_lt}
+use Rattle.std.specs.Prelude.{ℕ, suc, ◌≤◌, ◌+◌, ◌*◌, ◌^◌, Bool, cond, not, ◌&&◌, ◌||◌, List, [], ◌∷◌, ◌++◌, length, Some, None, Ok, Err, Option, Result, ◌==◌, nat_le, nat_lt}
 use Rattle.cost.specs.declared.kind.Cost as cost
 use Rattle.line.specs.declared.laying.Line as line
 use Rattle.trellis.specs.Codes.{sound}
 use Rattle.trellis.specs.declared.code.Code.{Code}
 use Rattle.link.specs.declared.format.Format.{Format}
-use Rattle.link.specs.declared.needs.Needs.{Needs}
+use Rattle.link.specs.declared.memory.Sizes.{Sizes}
+use Rattle.link.specs.declared.proposal.Proposal.{Proposal}
 use Rattle.link.specs.declared.refusal.Refusal.{Refusal}
 use Rattle.link.specs.declared.refusal.Refusal.TheVariants.{UnsoundCode, BadLengths, UnsuitedLine, ShortMemory, CountFull, NotStealable, WrongCount, UnfitSample}
 
@@ -35,35 +36,21 @@ abbrev pub lengths_suit : ℕ → ℕ → ℕ → Bool
 lengths_suit message parity depth =
     between 1 512 message && ((parity == 0 || parity == 16) && (depth == 1 || depth == 3))
 
--- what an opening is handed
-pub record Asked (L : Type 0) : Type 0 where
-  pub code : Code
-  pub message : ℕ
-  pub parity : ℕ
-  pub depth : ℕ
-  pub line : L
-
 -- the line suits, its lengths are in range, and it lays as many coded bits as the code makes
 abbrev pub line_suits : {L : Type 0} → line.Ghosts L → L → ℕ → Bool
 line_suits l x coded = l.suited x && (between 1 2048 (l.coded x) && (between 1 1024 (l.sent x) && l.coded x == coded))
 
-abbrev pub open_rules : {C S P L : Type 0} → line.Ghosts L → Asked L → List (Option (Refusal C S P))
+abbrev pub open_rules : {C S P L : Type 0} → line.Ghosts L → Proposal L → List (Option (Refusal C S P))
 open_rules l a =
     unless (sound a.code) UnsoundCode
     ∷ unless (lengths_suit a.message a.parity a.depth) BadLengths
     ∷ unless (line_suits l a.line (a.code.rows * steps_of a.code a.message a.parity)) UnsuitedLine
     ∷ []
 
--- what a receiver asks of the memory lent to it
-pub record Sizes : Type 0 where
-  pub ring : ℕ
-  pub costs : ℕ
-  pub paths : ℕ
-  pub block : ℕ
-
 abbrev pub steps : {L : Type 0} → Format L → ℕ
 steps f = steps_of f.code f.message f.parity
 
+-- what a receiver asks of the memory lent to it
 abbrev pub needed : {L : Type 0} → Format L → Sizes
 needed f = record {
   ring = f.depth * f.burst;
@@ -72,9 +59,11 @@ needed f = record {
   block = f.message;
 }
 
--- what is told to be needed
-abbrev pub Asks : {L : Type 0} → Format L → Needs → Type 0
-Asks f n = record { ring = n.ring; costs = n.costs; paths = n.paths; block = n.block } ≡ needed f
+-- so many cost cells, bytes of path record and bytes of block memory are enough to decide a block
+pub record Suffices {L : Type 0} (f : Format L) (cells record_bytes block_bytes : ℕ) : Type 0 where
+  pub costs : (needed f).costs ≤ cells
+  pub paths : (needed f).paths ≤ record_bytes
+  pub block : (needed f).block ≤ block_bytes
 
 module _ {C S P : Type 0} where
   -- a memory of the size needed

@@ -1,5 +1,5 @@
 // The samples due to one block: place k of burst n carries block n - (k mod depth), so block b finds its place k in burst b + (k mod depth).
-ghost use Rattle.std.specs.Prelude.{◌≡◌, ◌≤◌, length, slice_index_or};
+ghost use Rattle.std.specs.Prelude.{◌≡◌, ◌≤◌, length};
 ghost use Rattle.link.specs.Due.{met_on, in_ring, heard_of};
 ghost use Rattle.link.specs.Calls.{Finds};
 ghost use Rattle.link.specs.Rules.{needed};
@@ -19,14 +19,10 @@ pub(crate) struct Due<'r, 'f, C: Cost, L: Line> {
     pub(crate) block: usize,
 }
 
-// What lies in a ring cell; an unfit sample is read as nothing.
-fn weigh<C: Cost>(ring: &[C::Sample], cell: usize) -> C::Sample
-    ensures { result ≡ weighed C.Cost (slice_index_or ring.now cell C.Cost.NOTHING) }
+// An unfit sample is read as nothing.
+fn weighed<C: Cost>(sample: C::Sample) -> C::Sample
+    ensures { result ≡ weighed C.Cost sample }
 {
-    if cell >= ring.len() {
-        return C::NOTHING;
-    }
-    let sample = ring[cell];
     if C::is_fit(sample) {
         sample
     } else {
@@ -45,20 +41,41 @@ impl<'r, 'f, C: Cost, L: Line> Due<'r, 'f, C, L> {
             return C::NOTHING;
         }
         let row = (self.block % depth + place % depth) % depth;
-        weigh::<C>(self.ring, row * burst + place)
+        match self.ring.get(row * burst + place) {
+            Some(sample) => weighed::<C>(*sample),
+            None => C::NOTHING,
+        }
     }
 
     // How many of the samples due do not mean nothing.
     pub(crate) fn heard(&self) -> usize
         ensures { result ≡ heard_of C.Cost (in_ring C.Cost self.now.format.now self.now.ring.now self.now.block) self.now.format.now.burst }
     {
-        let mut count = 0;
-        for place in 0..self.format.burst {
-            if !C::is_silent(self.sample(place)) {
-                count += 1;
-            }
+        (0..self.format.burst)
+            .filter(|&place| !C::is_silent(self.sample(place)))
+            .count()
+    }
+
+    // The block that the trellis rule answers; its bits are left at the front of the path record.
+    pub(crate) fn best(&self, costs: &mut [Option<C::Plain>], paths: &mut [u8]) -> Report<C>
+        requires costs { (needed self.now.format.now).costs ≤ length costs.old }
+        requires paths { (needed self.now.format.now).paths ≤ length paths.old }
+        ensures { Finds C.Cost L.Line self.now.format.now (in_ring C.Cost self.now.format.now self.now.ring.now self.now.block) self.now.block result paths.new }
+    {
+        let Some(cost) = decide::<C, Due<'r, 'f, C, L>>(
+            &self.format.code,
+            self.format.steps(),
+            self,
+            costs,
+            paths,
+        ) else {
+            unreachable()
+        };
+        Report {
+            block: self.block,
+            cost,
+            heard: self.heard(),
         }
-        count
     }
 }
 
@@ -68,33 +85,7 @@ impl<'r, 'f, C: Cost, L: Line> Received for Due<'r, 'f, C, L> {
     ghost met = { λ d. met_on L.Line d.format.now.line (in_ring C.Cost d.format.now d.ring.now d.block) };
 
     fn met_at(&self, j: usize) -> Option<(C::Sample, bool)> {
-        match self.format.line.place_of(j) {
-            Some((place, turned)) => Some((self.sample(place), turned)),
-            None => None,
-        }
-    }
-}
-
-// The block that the trellis rule answers; its bits are left at the front of the path record.
-pub(crate) fn best<C: Cost, L: Line>(
-    format: &Format<L>,
-    ring: &[C::Sample],
-    block: usize,
-    costs: &mut [Option<C::Plain>],
-    paths: &mut [u8],
-) -> Report<C>
-    requires costs { (needed format.now).costs ≤ length costs.old }
-    requires paths { (needed format.now).paths ≤ length paths.old }
-    ensures { Finds C.Cost L.Line format.now (in_ring C.Cost format.now ring.now block) block result paths.new }
-{
-    let due = Due::<'_, '_, C, L> {
-        ring,
-        format,
-        block,
-    };
-    let heard = due.heard();
-    match decide::<C, Due<'_, '_, C, L>>(&format.code, format.steps(), &due, costs, paths) {
-        Some(cost) => Report { block, cost, heard },
-        None => unreachable(),
+        let (place, turned) = self.format.line.place_of(j)?;
+        Some((self.sample(place), turned))
     }
 }

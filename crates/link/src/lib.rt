@@ -3,7 +3,8 @@
 
 mod due;
 pub mod format;
-pub mod needs;
+pub mod memory;
+pub mod proposal;
 pub mod receiver;
 pub mod refusal;
 pub mod report;

@@ -5,7 +5,7 @@ ghost use Rattle.link.specs.Refusals.{told};
 use crate::report::Report;
 use cost::kind::Cost;
 
-#[derive(Clone, Copy)]
+#[derive(Clone, Copy, Debug, PartialEq, Eq)]
 pub enum Group {
     Installer,
     Host,
@@ -14,7 +14,7 @@ pub enum Group {
     Recording,
 }
 
-#[derive(Clone, Copy)]
+#[derive(Clone, Copy, Debug, PartialEq, Eq)]
 pub enum Refusal<C: Cost> {
     // The installer's: what was opened cannot be.
     UnsoundCode,

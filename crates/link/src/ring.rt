@@ -1,75 +1,70 @@
 // The ring of the last bursts: sample k of burst n lies in cell (n mod depth) * burst + k.
-ghost use Rattle.std.specs.Prelude.{◌≡◌, ℕ, ◌+◌, ◌*◌, ◌%◌, ◌^◌, ◌<◌, ◌≤◌, length, replicate};
-ghost use Rattle.link.specs.Due.{laid_at};
+ghost use Rattle.std.specs.Prelude.{◌≡◌, ◌+◌, ◌*◌, ◌≤◌, length, replicate};
+ghost use Rattle.link.specs.Due.{cell, laid_at, stored};
+
+use crate::format::Format;
 
 #[derive(Drop)]
-pub(crate) struct Ring<'a, S> {
+pub(crate) struct Ring<'a, 'f, S, L> {
     cells: &'a mut [S],
-    depth: usize,
-    burst: usize,
+    format: &'f Format<L>,
 }
 
-fn lay<S: Copy>(cells: &mut [S], at: usize, samples: &[S])
-    requires { at + length samples.now ≤ length cells.old }
-    ensures { cells.new ≡ laid_at at samples.now cells.old }
-{
-    let part = &mut cells[at..at + samples.len()];
-    part.copy_from_slice(samples);
-}
-
-fn fill<S: Copy>(part: &mut [S], sample: S)
-    ensures { part.new ≡ replicate (length part.old) sample }
-{
-    for cell in part.iter_mut() {
-        *cell = sample;
-    }
-}
-
-fn lay_same<S: Copy>(cells: &mut [S], at: usize, count: usize, sample: S)
-    requires { at + count ≤ length cells.old }
-    ensures { cells.new ≡ laid_at at (replicate count sample) cells.old }
-{
-    let part = &mut cells[at..at + count];
-    fill(part, sample);
-}
-
-impl<'a, S: Copy> Ring<'a, S> {
-    pub(crate) fn new(cells: &'a mut [S], depth: usize, burst: usize) -> Ring<'a, S>
+impl<'a, 'f, S: Copy, L> Ring<'a, 'f, S, L> {
+    pub(crate) fn new(cells: &'a mut [S], format: &'f Format<L>) -> Ring<'a, 'f, S, L>
         ensures cells { result.cells.now ≡ cells.old }
         ensures same { result.cells.ghost_name ≡ cells.entry.ghost_name }
-        ensures depth { result.depth ≡ depth }
-        ensures burst { result.burst ≡ burst }
+        ensures format { result.format.now ≡ format.now }
     {
-        Ring {
-            cells,
-            depth,
-            burst,
+        Ring { cells, format }
+    }
+
+    // Where the cells of burst n begin.
+    fn start(&self, n: usize) -> usize
+        ensures { result ≡ cell self.now.format.now n 0 }
+    {
+        n % self.format.depth * self.format.burst
+    }
+
+    // Burst n in its cells.
+    pub(crate) fn store(&mut self, n: usize, samples: &[S])
+        requires whole { length samples.now ≡ self.old.format.now.burst }
+        requires room { self.old.format.now.depth * self.old.format.now.burst ≤ length self.old.cells.now }
+        ensures cells { self.new.cells.now ≡ stored self.old.format.now n samples.now self.old.cells.now }
+        ensures same { self.new.cells.ghost_name ≡ self.old.cells.ghost_name }
+    {
+        let at = self.start(n);
+        self.cells[at..at + samples.len()].copy_from_slice(samples);
+    }
+
+    // Burst n as one whose samples are all the same. `fill` would ask for a clone that cannot fail, and Copy does not promise one.
+    pub(crate) fn store_same(&mut self, n: usize, sample: S)
+        requires { self.old.format.now.depth * self.old.format.now.burst ≤ length self.old.cells.now }
+        ensures cells { self.new.cells.now ≡ stored self.old.format.now n (replicate self.old.format.now.burst sample) self.old.cells.now }
+        ensures same { self.new.cells.ghost_name ≡ self.old.cells.ghost_name }
+    {
+        let at = self.start(n);
+        let burst = self.format.burst;
+        let part = &mut self.cells[at..at + burst];
+        for cell in part.iter_mut() {
+            *cell = sample;
         }
     }
+}
 
-    // The burst's samples, in its cells.
-    pub(crate) fn store(&mut self, n: usize, samples: &[S])
-        requires deep { 1 ≤ self.old.depth }
-        requires small { self.old.depth * self.old.burst < 2 ^ 32 }
-        requires whole { length samples.now ≡ self.old.burst }
-        requires room { self.old.depth * self.old.burst ≤ length self.old.cells.now }
-        ensures cells { self.new.cells.now ≡ laid_at (n % self.old.depth * self.old.burst) samples.now self.old.cells.now }
-        ensures same { self.new.cells.ghost_name ≡ self.old.cells.ghost_name }
-    {
-        let at = n % self.depth * self.burst;
-        lay(self.cells, at, samples);
-    }
+// Stores burst n in its cells of the ring.
+pub(crate) fn store<S: Copy, L>(format: &Format<L>, n: usize, samples: &[S], ring: &mut [S])
+    requires whole { length samples.now ≡ format.now.burst }
+    requires room { format.now.depth * format.now.burst ≤ length ring.old }
+    ensures { ring.new ≡ stored format.now n samples.now ring.old }
+{
+    Ring::new(ring, format).store(n, samples);
+}
 
-    // One sample in each of the burst's cells.
-    pub(crate) fn silence(&mut self, n: usize, sample: S)
-        requires deep { 1 ≤ self.old.depth }
-        requires small { self.old.depth * self.old.burst < 2 ^ 32 }
-        requires room { self.old.depth * self.old.burst ≤ length self.old.cells.now }
-        ensures cells { self.new.cells.now ≡ laid_at (n % self.old.depth * self.old.burst) (replicate self.old.burst sample) self.old.cells.now }
-        ensures same { self.new.cells.ghost_name ≡ self.old.cells.ghost_name }
-    {
-        let at = n % self.depth * self.burst;
-        let count = self.burst;
-        lay_same(self.cells, at, count, sample);
-    }
+// Stores burst n as one whose samples are all the same.
+pub(crate) fn store_same<S: Copy, L>(format: &Format<L>, n: usize, sample: S, ring: &mut [S])
+    requires { format.now.depth * format.now.burst ≤ length ring.old }
+    ensures { ring.new ≡ stored format.now n (replicate format.now.burst sample) ring.old }
+{
+    Ring::new(ring, format).store_same(n, sample);
 }

@@ -1,10 +1,10 @@
 // The checks of hear and miss, in the order of the refusals' numbers.
 ghost use Rattle.std.specs.Prelude.{◌≡◌, ◌*◌, ◌^◌, ◌≤◌, [], ◌∷◌, length};
-ghost use Rattle.link.specs.Rules.{all_fit, Asks, enough, first, hear_rules, memory_rules, miss_rules, needed, passed, room, steps};
+ghost use Rattle.link.specs.Rules.{all_fit, enough, first, hear_rules, memory_rules, miss_rules, needed, passed, room, steps};
 
 use super::Receiver;
 use crate::format::Format;
-use crate::needs::Needs;
+use crate::memory::Sizes;
 use crate::refusal::Refusal;
 use cost::kind::Cost;
 use line::laying::Line;
@@ -59,11 +59,11 @@ fn check_fit<C: Cost>(samples: &[C::Sample]) -> Result<(), Refusal<C>>
 
 impl<C: Cost, L: Line> Receiver<C, L> {
     // How much memory hear and miss are to be lent.
-    pub fn needs(&self) -> Needs
-        ensures { Asks self.now.format result }
+    pub fn needs(&self) -> Sizes
+        ensures { result ≡ needed self.now.format }
     {
         let registers = self.format.registers();
-        Needs {
+        Sizes {
             ring: self.format.depth * self.format.burst,
             costs: 2 * registers,
             paths: self.format.steps() * registers,
@@ -72,46 +72,27 @@ impl<C: Cost, L: Line> Receiver<C, L> {
     }
 
     // The memory lent, in the order ring, costs, path record, block.
-    fn check_memory(
-        &self,
-        ring: usize,
-        costs: usize,
-        paths: usize,
-        block: usize,
-    ) -> Result<(), Refusal<C>>
-        ensures { result ≡ passed (first (memory_rules self.now.format (record { ring = ring; costs = costs; paths = paths; block = block }))) }
+    fn check_memory(&self, lent: Sizes) -> Result<(), Refusal<C>>
+        ensures { result ≡ passed (first (memory_rules self.now.format lent)) }
     {
         let needs = self.needs();
-        check_size::<C>(needs.ring, ring)?;
-        check_size::<C>(needs.costs, costs)?;
-        check_size::<C>(needs.paths, paths)?;
-        check_size::<C>(needs.block, block)
+        check_size::<C>(needs.ring, lent.ring)?;
+        check_size::<C>(needs.costs, lent.costs)?;
+        check_size::<C>(needs.paths, lent.paths)?;
+        check_size::<C>(needs.block, lent.block)
     }
 
-    pub(super) fn check_miss(
-        &self,
-        ring: usize,
-        costs: usize,
-        paths: usize,
-        block: usize,
-    ) -> Result<(), Refusal<C>>
-        ensures { result ≡ passed (first (miss_rules self.now.format (record { ring = ring; costs = costs; paths = paths; block = block }) self.now.counted)) }
+    pub(super) fn check_miss(&self, lent: Sizes) -> Result<(), Refusal<C>>
+        ensures { result ≡ passed (first (miss_rules self.now.format lent self.now.counted)) }
     {
-        self.check_memory(ring, costs, paths, block)?;
+        self.check_memory(lent)?;
         check_count::<C>(self.counted)
     }
 
-    pub(super) fn check_hear(
-        &self,
-        samples: &[C::Sample],
-        ring: usize,
-        costs: usize,
-        paths: usize,
-        block: usize,
-    ) -> Result<(), Refusal<C>>
-        ensures { result ≡ passed (first (hear_rules C.Cost self.now.format (record { ring = ring; costs = costs; paths = paths; block = block }) self.now.counted samples.now)) }
+    pub(super) fn check_hear(&self, samples: &[C::Sample], lent: Sizes) -> Result<(), Refusal<C>>
+        ensures { result ≡ passed (first (hear_rules C.Cost self.now.format lent self.now.counted samples.now)) }
     {
-        self.check_miss(ring, costs, paths, block)?;
+        self.check_miss(lent)?;
         if samples.len() != self.format.burst {
             return Err(Refusal::WrongCount {
                 given: samples.len(),

@@ -1,15 +1,38 @@
-use Rattle.std.proofs.Common.{◌+◌, ◌*◌, ◌%◌, ltb, get_or, sym, ap, ◌∙◌}
+use Rattle.std.proofs.Common.{◌≡◌, ℕ, ◌+◌, ◌*◌, ◌%◌, ◌<◌, ◌≤◌, ltb, List, length, get_or, sym, ap, ◌∙◌, rules}
 use native.Mathlib.Nat.{mod-add-mod}
 use Rattle.std.proofs.lemmas.Bool.{cond-true, lt-ltb}
+use Rattle.std.proofs.lemmas.List.{get_or_past}
+use Rattle.cost.specs.declared.kind.Cost.{Ghosts}
 use Rattle.trellis.specs.Met.{weighed}
+use Rattle.link.specs.declared.format.Format.{Format}
+use Rattle.link.specs.Due.{in_ring}
 use Rattle.link.proofs.due.Due.sample.Goals as goal
 
-pub returns : goal.returns
-returns g c =
+-- a sample due is what lies in its cell, weighed
+in_cell : {C S P L : Type 0} (k : Ghosts C S P) (f : Format L) (ring : List S) (b p : ℕ) → p < f.burst →
+    weighed k (get_or ring ((b % f.depth + p % f.depth) % f.depth * f.burst + p) k.NOTHING) ≡ in_ring k f ring b p
+in_cell k f ring b p h =
+    ap (λ row. weighed k (get_or ring (row * f.burst + p) k.NOTHING)) (mod-add-mod b f.depth (p % f.depth))
+    ∙ sym (cond-true (ltb p f.burst) _ _ (lt-ltb p f.burst h))
+
+pub returns-in-Some : goal.returns-in-Some
+returns-in-Some g c =
     let k = g.C.Cost in
     let f = c.args.self.now.format.now in
     let ring = c.args.self.now.ring.now in
+    let b = c.args.self.now.block in
     let p = c.args.place in
-    c.weigh.ensures
-    ∙ ap (λ row. weighed k (get_or ring (row * f.burst + p) k.NOTHING)) (mod-add-mod c.args.self.now.block f.depth (p % f.depth))
-    ∙ sym (cond-true (ltb p f.burst) _ _ (lt-ltb p f.burst c.if-place-burst.false))
+    let s : c.in-Some.sample.now ≡ get_or ring ((b % f.depth + p % f.depth) % f.depth * f.burst + p) k.NOTHING = search rules in
+    c.weighed.ensures ∙ ap (weighed k) s ∙ in_cell k f ring b p c.if-place-burst.false
+
+pub returns-in-None : goal.returns-in-None
+returns-in-None g c =
+    let k = g.C.Cost in
+    let f = c.args.self.now.format.now in
+    let ring = c.args.self.now.ring.now in
+    let b = c.args.self.now.block in
+    let p = c.args.place in
+    let past : length ring ≤ (b % f.depth + p % f.depth) % f.depth * f.burst + p = search rules in
+    c.nothing_sample-in-None.ensures
+    ∙ sym (ap (weighed k) (get_or_past ring _ k.NOTHING past) ∙ cond-true _ _ _ g.met.C.Cost.nothing_fit)
+    ∙ in_cell k f ring b p c.if-place-burst.false

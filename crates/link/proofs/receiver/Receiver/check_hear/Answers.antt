@@ -11,6 +11,6 @@ returns-in_err-check_miss g c =
     let ss = c.args.samples.now in
     let p = err_from_is_err_and c.from_residual.result c.from_residual.ensures.1 in
     p.1 ∙ ap Err p.2 ∙ broken_first
-    (miss_rules r.format (record { ring = c.args.ring; costs = c.args.costs; paths = c.args.paths; block = c.args.block }) r.counted)
+    (miss_rules r.format c.args.lent r.counted)
     (unless (eqb (length ss) r.format.burst) (WrongCount (length ss)) ∷ all_fit g.C.Cost 0 ss ∷ [])
     _ c.in_err-check_miss.ensures

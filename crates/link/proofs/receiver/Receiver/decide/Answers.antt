@@ -9,14 +9,12 @@ pub parity_holds-requires : goal.parity_holds-requires
 parity_holds-requires g c =
     omega (arith, steps_within c.args.self.now.format (length c.args.paths.now) c.requires.paths)
 
-pub write_message-requires : goal.write_message-requires
-write_message-requires g c = record {
-  paths = omega (arith, steps_within c.args.self.now.format (length c.args.paths.now) c.requires.paths);
-  block = c.requires.block;
-}
+pub write_message-requires-clause-paths : goal.write_message-requires-clause-paths
+write_message-requires-clause-paths g c =
+    omega (arith, steps_within c.args.self.now.format (length c.args.paths.now) c.requires.paths)
 
-pub returns-then-not-parity_holds : goal.returns-then-not-parity_holds
-returns-then-not-parity_holds g c =
+pub returns-then-not-parity_holds-clause-decided : goal.returns-then-not-parity_holds-clause-decided
+returns-then-not-parity_holds-clause-decided g c =
     let f = c.args.self.now.format in
     let due = in_ring g.C.Cost f c.args.ring.now c.args.number in
     let finds = c.best-report.ensures in
@@ -24,8 +22,8 @@ returns-then-not-parity_holds g c =
     refuses g.C.Cost g.L.Line f due c.args.number c.best-report.result c.best-report.new.paths finds c.args.block.now
     (sym (c.parity_holds.ensures finds.path long finds.traced) ∙ c.if-not-parity_holds.true)
 
-pub returns : goal.returns
-returns g c =
+pub returns-clause-decided : goal.returns-clause-decided
+returns-clause-decided g c =
     let f = c.args.self.now.format in
     let due = in_ring g.C.Cost f c.args.ring.now c.args.number in
     let finds = c.best-report.ensures in
