@@ -1,5 +1,5 @@
 -- What the first broken rule of a call tells, and what a burst is where no rule is broken.
-use Rattle.std.proofs.Common.{◌≡◌, ℕ, zero, suc, ◌*◌, ◌≤◌, Bool, true, false, cond, eqb, List, [], ◌∷◌, ◌++◌, length, replicate, Some, None, Err, Option, refl, arith}
+use Rattle.std.proofs.Common.{◌≡◌, ℕ, zero, suc, ◌*◌, ◌≤◌, Bool, true, false, cond, eqb, List, [], ◌∷◌, length, replicate, Some, None, Option, refl, arith}
 use lib.ListN.{length-replicate}
 use Rattle.std.specs.List.{AllByRecursion}
 use Rattle.std.proofs.lemmas.Bool.{leb-true, eqb-true}
@@ -10,7 +10,7 @@ use Rattle.link.specs.declared.memory.Sizes.{Sizes}
 use Rattle.link.specs.declared.refusal.Refusal.{Refusal}
 use Rattle.link.specs.declared.refusal.Refusal.TheVariants.{UnfitSample}
 use Rattle.link.specs.Refusals.{told}
-use Rattle.link.specs.Rules.{first, passed, unless, all_fit, hear_rules, miss_rules}
+use Rattle.link.specs.Rules.{first, unless, all_fit, hear_rules, miss_rules}
 
 module _ {X : Type 0} where
   -- what is told, if anything is, has the property
@@ -48,12 +48,6 @@ module _ {X : Type 0} where
   unless_none : (holds : Bool) (x : X) → unless holds x ≡ None → holds ≡ true
   unless_none true x e = refl
   unless_none false x e = absurd (some_none e)
-
-  -- a refusal by the first rules is the refusal by all
-  pub broken_first : (xs ys : List (Option X)) (x : X) → Err x ≡ passed (first xs) → Err x ≡ passed (first (xs ++ ys))
-  broken_first [] ys x e = let z : ◌≡◌ {A = ℕ} 0 1 = cc in absurd (omega arith)
-  broken_first (None ∷ xs) ys x e = broken_first xs ys x e
-  broken_first (Some y ∷ xs) ys x e = e
 
 module _ {C S P : Type 0} where
   -- a refusal that is not of parity

@@ -1,6 +1,5 @@
 pub mod Best
 pub mod Deciding
-pub mod Finding
 pub mod FirstRule
 pub mod Judging
 pub mod KeptBursts
