@@ -1,14 +1,17 @@
 -- The channels: what each one sets, and what a receiver opened for it is.
-use Rattle.std.specs.Prelude.{◌≡◌, ℕ, Bool, Option}
+use Rattle.std.specs.Prelude.{◌≡◌, ℕ, ◌*◌, Bool, true, Option}
 use Rattle.cost.specs.declared.kind.Cost as cost
+use Rattle.line.specs.declared.laying.Line as line
 use Rattle.line.specs.Interleaver.{interleaved}
 use Rattle.line.specs.Layouts.{in_order}
 use Rattle.puncture.specs.Patterns.{numbered}
 use Rattle.puncture.specs.Masks.{pattern}
 use Rattle.line.specs.Scrambler.{scrambled}
 use Rattle.link.specs.Opening.{Opened}
-use Rattle.link.specs.Rules.{Asked}
+use Rattle.link.specs.Rules.{lengths_suit, line_suits, steps_of}
+use Rattle.link.specs.declared.proposal.Proposal.{Proposal}
 use Rattle.link.specs.declared.receiver.Receiver.{Receiver}
+use Rattle.trellis.specs.Codes.{sound}
 use Rattle.trellis.specs.declared.code.Code.{Code}
 use Rattle.channels.specs.Layings.{laying_line}
 use Rattle.channels.specs.Tables.{bench_code, half_code, fifth_code, data24_masks, data96_masks}
@@ -81,8 +84,22 @@ terms Data24 = data24_terms
 terms Data96 = data96_terms
 
 -- what a receiver of the channel is opened with, its line aside
-abbrev pub asked : Terms → Laying → Asked Laying
+abbrev pub asked : Terms → Laying → Proposal Laying
 asked t l = record { code = t.code; message = t.message; parity = t.parity; depth = t.depth; line = l }
+
+-- a proposal that breaks no rule of opening
+pub record Openable {L : Type 0} (l : line.Ghosts L) (p : Proposal L) : Type 0 where
+  pub code : sound p.code ≡ true
+  pub lengths : lengths_suit p.message p.parity p.depth ≡ true
+  pub laying : line_suits l p.line (p.code.rows * steps_of p.code p.message p.parity) ≡ true
+
+-- a proposal of what a channel sets, with a line that suits and lays a block as the channel does
+pub record Proposes (channel : Channel) (p : Proposal Laying) : Type 0 where
+  pub asks : p ≡ asked (terms channel) p.line
+  pub suited : laying_line.suited p.line ≡ true
+  pub coded : laying_line.coded p.line ≡ (terms channel).coded
+  pub burst : laying_line.sent p.line ≡ (terms channel).burst
+  pub places : (j : ℕ) → laying_line.place p.line j ≡ (terms channel).place j
 
 -- a receiver opened for a channel: its line lays a block as the channel sets, and every history of it is sound
 pub record Tuned {C S P : Type 0} (k : cost.Ghosts C S P) (channel : Channel) (r : Receiver C Laying S P) : Type 0 where

@@ -1,13 +1,12 @@
 // The broadcast control channel: 192 message bits and 16 of parity, every coded bit sent, interleaved and scrambled, one burst a block.
-ghost use Rattle.channels.specs.Channels.{Tuned};
+ghost use Rattle.channels.specs.Channels.{Proposes};
 ghost use Rattle.channels.specs.declared.channel.Channel.TheVariants.{Bcch};
 
 use crate::laying::Laying;
-use cost::kind::Cost;
 use line::interleaver::Interleaved;
 use line::scrambler::Scrambled;
 use line::unpunctured::Unpunctured;
-use link::receiver::Receiver;
+use link::proposal::Proposal;
 use trellis::code::Code;
 
 // Rows 1 + D^3 + D^4 and 1 + D + D^2 + D^4.
@@ -25,12 +24,15 @@ pub const DEPTH: usize = 1;
 
 pub const LINE: Laying = Laying::Scrambled(Scrambled(Interleaved(Unpunctured { bits: 424 })));
 
-// A receiver for the broadcast control channel, which always opens.
-pub fn open_bcch<C: Cost>() -> Receiver<C, Laying>
-    ensures { Tuned C.Cost Bcch result }
+// What a receiver of the channel is opened with.
+pub fn proposal() -> Proposal<Laying>
+    ensures { Proposes Bcch result }
 {
-    match Receiver::<C, Laying>::open(CODE, MESSAGE, PARITY, DEPTH, LINE) {
-        Ok(receiver) => receiver,
-        Err(_) => unreachable(),
+    Proposal {
+        code: CODE,
+        message: MESSAGE,
+        parity: PARITY,
+        depth: DEPTH,
+        line: LINE,
     }
 }

@@ -1,16 +1,13 @@
 // The channels by name.
-ghost use Rattle.channels.specs.Channels.{Tuned};
-ghost use Rattle.channels.specs.declared.channel.Channel.TheVariants.{Bench};
+ghost use Rattle.channels.specs.Channels.{Proposes, Tuned};
 
-use crate::bcch::open_bcch;
-use crate::bench;
-use crate::data24::open_data24;
-use crate::data96::open_data96;
 use crate::laying::Laying;
+use crate::{bcch, bench, data24, data96, opening};
 use cost::kind::Cost;
+use link::proposal::Proposal;
 use link::receiver::Receiver;
 
-#[derive(Clone, Copy)]
+#[derive(Clone, Copy, Debug, PartialEq, Eq)]
 pub enum Channel {
     Bench,
     Bcch,
@@ -19,31 +16,28 @@ pub enum Channel {
 }
 
 impl Channel {
+    // What a receiver of the channel is opened with; the bench gets the line type that the channels share.
+    pub fn proposal(self) -> Proposal<Laying>
+        ensures { Proposes self result }
+    {
+        match self {
+            Channel::Bench => Proposal {
+                code: bench::CODE,
+                message: bench::MESSAGE,
+                parity: bench::PARITY,
+                depth: bench::DEPTH,
+                line: Laying::Whole(bench::LINE),
+            },
+            Channel::Bcch => bcch::proposal(),
+            Channel::Data24 => data24::proposal(),
+            Channel::Data96 => data96::proposal(),
+        }
+    }
+
     // A receiver for the channel, which always opens.
     pub fn open<C: Cost>(self) -> Receiver<C, Laying>
         ensures { Tuned C.Cost self result }
     {
-        match self {
-            Channel::Bench => open_bench::<C>(),
-            Channel::Bcch => open_bcch::<C>(),
-            Channel::Data24 => open_data24::<C>(),
-            Channel::Data96 => open_data96::<C>(),
-        }
-    }
-}
-
-// The bench, with the line type that the channels share.
-fn open_bench<C: Cost>() -> Receiver<C, Laying>
-    ensures { Tuned C.Cost Bench result }
-{
-    match Receiver::<C, Laying>::open(
-        bench::CODE,
-        bench::MESSAGE,
-        bench::PARITY,
-        bench::DEPTH,
-        Laying::Whole(bench::LINE),
-    ) {
-        Ok(receiver) => receiver,
-        Err(_) => unreachable(),
+        opening::open(self.proposal())
     }
 }

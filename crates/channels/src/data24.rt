@@ -1,14 +1,13 @@
 // The 2.4 kbit/s data channel: 144 message bits and no parity, punctured to 648, interleaved and scrambled, three bursts a block.
 ghost use Rattle.puncture.specs.Laying.{Lays};
-ghost use Rattle.channels.specs.Channels.{Tuned};
+ghost use Rattle.channels.specs.Channels.{Proposes};
 ghost use Rattle.channels.specs.Tables.{data24_masks};
 ghost use Rattle.channels.specs.declared.channel.Channel.TheVariants.{Data24};
 
 use crate::laying::Laying;
-use cost::kind::Cost;
 use line::interleaver::Interleaved;
 use line::scrambler::Scrambled;
-use link::receiver::Receiver;
+use link::proposal::Proposal;
 use puncture::mask::Mask;
 use puncture::mask::tables::Tables;
 use trellis::code::Code;
@@ -50,13 +49,15 @@ fn mask() -> Mask
     Mask::new(&MASKS)
 }
 
-// A receiver for the 2.4 kbit/s data channel, which always opens.
-pub fn open_data24<C: Cost>() -> Receiver<C, Laying>
-    ensures { Tuned C.Cost Data24 result }
+// What a receiver of the channel is opened with.
+pub fn proposal() -> Proposal<Laying>
+    ensures { Proposes Data24 result }
 {
-    let line = Laying::Punctured(Scrambled(Interleaved(mask())));
-    match Receiver::<C, Laying>::open(CODE, MESSAGE, PARITY, DEPTH, line) {
-        Ok(receiver) => receiver,
-        Err(_) => unreachable(),
+    Proposal {
+        code: CODE,
+        message: MESSAGE,
+        parity: PARITY,
+        depth: DEPTH,
+        line: Laying::Punctured(Scrambled(Interleaved(mask()))),
     }
 }
