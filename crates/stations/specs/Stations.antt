@@ -4,13 +4,13 @@ use Rattle.channels.specs.Channels.{Tuned}
 use Rattle.channels.specs.Layings.{laying_line}
 use Rattle.channels.specs.declared.channel.Channel.{Channel}
 use Rattle.cost.specs.declared.kind.Cost as cost
-use Rattle.link.specs.Calls.{Memory, lent, sizes, Reply, Hears, Misses, Restarts}
+use Rattle.link.specs.Calls.{Memory, sizes, Reply, Hears, Misses, Restarts}
 use Rattle.link.specs.Rules.{needed}
 use Rattle.stations.specs.declared.station.Station.{Station}
 
 -- the memory that a station lends to each call
 abbrev pub memory : {C S P : Type 0} → Station C S P → Memory S P
-memory s = lent (vec_items s.ring) (vec_items s.costs) (vec_items s.paths) (vec_items s.block)
+memory s = record { ring = vec_items s.ring; costs = vec_items s.costs; paths = vec_items s.paths; block = vec_items s.block }
 
 module _ {C S P : Type 0} (k : cost.Ghosts C S P) where
   -- a receiver opened for the channel, with as much memory as it asks for

@@ -1,5 +1,5 @@
 // A receiver with the memory that its calls are lent.
-ghost use Rattle.std.specs.Prelude.{◌≡◌, replicate, IfOk};
+ghost use Rattle.std.specs.Prelude.{◌≡◌, IfOk};
 ghost use Rattle.channels.specs.Layings.{laying_line};
 ghost use Rattle.link.specs.Calls.{Steals};
 ghost use Rattle.stations.specs.Stations.{Fresh, HearsHere, MissesHere, RestartsHere};
@@ -7,6 +7,7 @@ ghost use Rattle.stations.specs.Stations.{Fresh, HearsHere, MissesHere, Restarts
 use channels::channel::Channel;
 use channels::laying::Laying;
 use cost::kind::Cost;
+use link::memory::Memory;
 use link::receiver::Receiver;
 use link::refusal::Refusal;
 use link::report::Answer;
@@ -21,15 +22,6 @@ pub struct Station<C: Cost> {
     block: Vec<u8>,
 }
 
-// That many elements, all the same.
-fn filled<T: Copy>(heap: Global, x: T, n: usize) -> Result<Vec<T>, AllocError>
-    ensures { IfOk result (λ v. v.items ≡ replicate n x) }
-{
-    let mut elements = Vec::new(heap);
-    elements.resize(n, x)?;
-    Ok(elements)
-}
-
 impl<C: Cost> Station<C> {
     pub fn open(heap: Global, channel: Channel) -> Result<Station<C>, AllocError>
         ensures { IfOk result (λ s. Fresh C.Cost channel s) }
@@ -38,10 +30,10 @@ impl<C: Cost> Station<C> {
         let needs = receiver.needs();
         Ok(Station {
             receiver,
-            ring: filled(heap, C::NOTHING, needs.ring)?,
-            costs: filled(heap, None, needs.costs)?,
-            paths: filled(heap, 0, needs.paths)?,
-            block: filled(heap, 0, needs.block)?,
+            ring: vec![in heap; C::NOTHING; needs.ring]?,
+            costs: vec![in heap; None; needs.costs]?,
+            paths: vec![in heap; 0; needs.paths]?,
+            block: vec![in heap; 0; needs.block]?,
         })
     }
 
@@ -55,7 +47,17 @@ impl<C: Cost> Station<C> {
             paths,
             block,
         } = self;
-        receiver.hear(samples, ring, costs, paths, block)
+        let ring: &mut [C::Sample] = ring;
+        let costs: &mut [Option<C::Plain>] = costs;
+        let paths: &mut [u8] = paths;
+        let block: &mut [u8] = block;
+        let mut memory = Memory {
+            ring,
+            costs,
+            paths,
+            block,
+        };
+        receiver.hear(samples, &mut memory)
     }
 
     pub fn miss(&mut self) -> Result<Answer<C>, Refusal<C>>
@@ -68,7 +70,17 @@ impl<C: Cost> Station<C> {
             paths,
             block,
         } = self;
-        receiver.miss(ring, costs, paths, block)
+        let ring: &mut [C::Sample] = ring;
+        let costs: &mut [Option<C::Plain>] = costs;
+        let paths: &mut [u8] = paths;
+        let block: &mut [u8] = block;
+        let mut memory = Memory {
+            ring,
+            costs,
+            paths,
+            block,
+        };
+        receiver.miss(&mut memory)
     }
 
     pub fn stolen(&self) -> Result<usize, Refusal<C>>
