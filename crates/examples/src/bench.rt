@@ -3,14 +3,11 @@ use crate::told::{Told, told};
 use channels::bench::{CODE, LINE, open_bench};
 use cost::count::Count;
 use line::laying::Line;
+use std::array;
 use std::test::*;
 
 fn coded(run: &[u8]) -> [u8; 16] {
-    let mut bits = [0; 16];
-    for j in 0..16 {
-        bits[j] = CODE.coded_bit(run, j) as u8;
-    }
-    bits
+    array::from_fn(|j| CODE.coded_bit(run, j) as u8)
 }
 
 fn sent(run: &[u8]) -> [u8; 16] {
@@ -27,13 +24,7 @@ fn sent(run: &[u8]) -> [u8; 16] {
 
 // In how many places two bursts differ.
 fn apart(a: &[u8; 16], b: &[u8; 16]) -> usize {
-    let mut n: usize = 0;
-    for i in 0..16 {
-        if a[i] != b[i] {
-            n = n.saturating_add(1);
-        }
-    }
-    n
+    a.iter().zip(b).filter(|(x, y)| x != y).count()
 }
 
 // What the block that a burst ends tells, and its message.

@@ -7,17 +7,9 @@ use std::test::*;
 
 // Whether each coded bit j goes unturned to the burst place p beside it.
 pub(crate) fn lays<L: Line>(line: &L, places: &[(usize, usize)]) -> bool {
-    for (j, p) in places {
-        match line.place_of(*j) {
-            Some((k, turned)) => {
-                if k != *p || turned {
-                    return false;
-                }
-            }
-            None => return false,
-        }
-    }
-    true
+    places
+        .iter()
+        .all(|&(j, p)| line.place_of(j) == Some((p, false)))
 }
 
 #[test]
@@ -49,18 +41,8 @@ fn bursts_of_the_channels_go_by_columns(rt: HostRuntime) -> Result<(), Fail> {
 
 // Whether bits stay in their places, and are turned over from place `from` on as the figures say.
 fn turns<L: Line>(line: &L, from: usize, figures: &str) -> bool {
-    for (i, figure) in figures.as_bytes().iter().enumerate() {
-        let k = from.saturating_add(i);
-        match line.place_of(k) {
-            Some((place, turned)) => {
-                if place != k || turned != (*figure == b'1') {
-                    return false;
-                }
-            }
-            None => return false,
-        }
-    }
-    true
+    (from..).zip(figures.as_bytes())
+        .all(|(k, figure)| line.place_of(k) == Some((k, *figure == b'1')))
 }
 
 #[test]

@@ -1,5 +1,6 @@
 // What happens to the bursts on their way.
 use cost::kind::Cost;
+use std::fmt;
 
 #[derive(Clone, Copy)]
 pub(crate) enum Condition {
@@ -29,21 +30,20 @@ fn step(n: usize, k: usize) -> usize {
     k.saturating_add(n.saturating_mul(7))
 }
 
-impl Condition {
-    pub(crate) fn name(self) -> &'static str {
-        match self {
+impl fmt::Display for Condition {
+    fn fmt<W: fmt::Write>(&self, f: &mut fmt::Formatter<W>) -> fmt::Result {
+        f.write_str(match self {
             Condition::Clean => "clean",
             Condition::Noise => "noise",
             Condition::Erasures => "erasures",
             Condition::Lost => "lost",
-        }
+        })
     }
+}
 
+impl Condition {
     pub(crate) fn loses(self, n: usize) -> bool {
-        match self {
-            Condition::Lost => n == LOST,
-            _ => false,
-        }
+        matches!(self, Condition::Lost) && n == LOST
     }
 
     // How a bit sent at place k of burst n is heard.

@@ -1,16 +1,18 @@
 // Decoding the bursts of one channel, and printing the answers.
 use crate::condition::{CONDITIONS, Condition};
 use crate::hearing::take;
-use crate::shown::Shown;
+use crate::trial::{Named, Trial};
 use crate::vector::Vector;
 use channels::channel::Channel;
+use cost::kind::Cost;
 use link::refusal::Refusal;
 use link::report::Answer;
 use stations::station::Station;
 use std::alloc::{AllocError, Global};
+use std::fmt::Display;
 
 // Decodes the channel's bursts under each condition.
-pub(crate) fn decode<C: Shown>(
+pub(crate) fn decode<C: Cost + Display + Named>(
     rt: &HostRuntime,
     name: &str,
     channel: Channel,
@@ -22,60 +24,53 @@ pub(crate) fn decode<C: Shown>(
     Ok(())
 }
 
-fn decode_under<C: Shown>(
+fn decode_under<C: Cost + Display + Named>(
     rt: &HostRuntime,
     name: &str,
     channel: Channel,
     condition: Condition,
     vectors: &[Vector<'_>],
 ) -> anyhow::Result<()> {
-    let title = title::<C>(rt.alloc(), name, condition)?;
+    let trial = Trial {
+        channel: name,
+        kind: C::NAME,
+        condition,
+    };
     let mut station = Station::<C>::open(rt.alloc(), channel)?;
-    let mut n: usize = 0;
-    for vector in vectors {
-        if vector.channel == name {
-            let reply = take::<C>(rt.alloc(), &mut station, condition, n, vector.burst)?;
-            print_reply::<C>(rt, &title, reply, station.message())?;
-            n = n.saturating_add(1);
-        }
+    let bursts = vectors.iter().filter(|v| v.channel == channel);
+    for (n, vector) in bursts.enumerate() {
+        let reply = take::<C>(rt.alloc(), &mut station, condition, n, vector.burst)?;
+        print_reply::<C>(rt, trial, reply, station.message())?;
     }
     Ok(())
 }
 
-fn title<C: Shown>(heap: Global, name: &str, condition: Condition) -> Result<String, AllocError> {
-    let kind = C::name();
-    let under = condition.name();
-    format!(in heap; "{name} {kind} {under}")
-}
-
-fn print_reply<C: Shown>(
+fn print_reply<C: Cost + Display>(
     rt: &HostRuntime,
-    title: &String,
+    trial: Trial<'_>,
     reply: Result<Answer<C>, Refusal<C>>,
     message: &[u8],
 ) -> anyhow::Result<()> {
     match reply {
-        Ok(Answer::Waiting { burst }) => println!(rt; "{title} W {burst}")?,
+        Ok(Answer::Waiting { burst }) => println!(rt; "{trial} W {burst}")?,
         Ok(Answer::Block(report)) => {
             let block = report.block;
-            let cost = report.cost.shown(rt.alloc())?;
+            let cost = report.cost;
             let heard = report.heard;
             let bits = figures(rt.alloc(), message)?;
-            println!(rt; "{title} B {block} {cost} {heard} {bits}")?;
+            println!(rt; "{trial} B {block} {cost} {heard} {bits}")?;
         }
         Err(refusal) => {
             let number = refusal.number();
             let detail = refusal.detail();
-            println!(rt; "{title} X {number} {detail}")?;
+            println!(rt; "{trial} X {number} {detail}")?;
         }
     }
     Ok(())
 }
 
 fn figures(heap: Global, bits: &[u8]) -> Result<String, AllocError> {
-    let mut text = String::new(heap);
-    for bit in bits {
-        text.push(if *bit == 0 { '0' } else { '1' })?;
-    }
-    Ok(text)
+    bits.iter()
+        .map(|bit| if *bit == 0 { '0' } else { '1' })
+        .collect(heap)
 }

@@ -13,11 +13,11 @@ fn samples<C: Cost>(
     n: usize,
     burst: &[u8],
 ) -> Result<Vec<C::Sample>, AllocError> {
-    let mut samples = Vec::new(heap);
-    for (k, figure) in burst.iter().enumerate() {
-        samples.push(condition.heard::<C>(n, k, *figure == b'1'))?;
-    }
-    Ok(samples)
+    burst
+        .iter()
+        .enumerate()
+        .map(|(k, figure)| condition.heard::<C>(n, k, *figure == b'1'))
+        .collect(heap)
 }
 
 // Burst n is heard or missed.

@@ -4,7 +4,7 @@
 mod condition;
 mod decoding;
 mod hearing;
-mod shown;
+mod trial;
 mod vector;
 
 use cost::count::Count;

@@ -11,17 +11,15 @@ pub(crate) const CHANNELS: [(&str, Channel); 3] = [
 
 #[derive(Clone, Copy)]
 pub(crate) struct Vector<'a> {
-    pub(crate) channel: &'a str,
+    pub(crate) channel: Channel,
     pub(crate) burst: &'a [u8],
 }
 
 pub(crate) fn read_vectors<'a>(heap: Global, text: &'a str) -> anyhow::Result<Vec<Vector<'a>>> {
     let mut vectors = Vec::new(heap);
     for (before, line) in text.lines().enumerate() {
-        match read_line(line) {
-            Some(vector) => vectors.push(vector)?,
-            None => return Err(bad_line(before.saturating_add(1))),
-        }
+        let vector = read_line(line).ok_or_else(|| bad_line(before.saturating_add(1)))?;
+        vectors.push(vector)?;
     }
     Ok(vectors)
 }
@@ -32,33 +30,26 @@ fn bad_line(number: usize) -> anyhow::Error {
 
 fn read_line<'a>(line: &'a str) -> Option<Vector<'a>> {
     let mut words = line.split_whitespace();
-    let channel = words.next()?;
-    let message = words.next()?.as_bytes();
-    let burst = words.next()?.as_bytes();
-    if words.next().is_some() || !are_figures(message) || !are_figures(burst) {
-        return None;
-    }
-    if is_channel(channel) {
-        Some(Vector { channel, burst })
-    } else {
-        None
+    let channel = channel_named(words.next()?)?;
+    figures(words.next()?)?;
+    let burst = figures(words.next()?)?;
+    match words.next() {
+        None => Some(Vector { channel, burst }),
+        Some(_) => None,
     }
 }
 
-fn is_channel(word: &str) -> bool {
-    for (name, _) in CHANNELS {
-        if name == word {
-            return true;
-        }
-    }
-    false
+fn channel_named(word: &str) -> Option<Channel> {
+    CHANNELS
+        .iter()
+        .find(|(name, _)| *name == word)
+        .map(|(_, channel)| *channel)
 }
 
-fn are_figures(bits: &[u8]) -> bool {
-    for bit in bits {
-        if *bit != b'0' && *bit != b'1' {
-            return false;
-        }
-    }
-    true
+// The word's bytes, where each is a figure 0 or 1.
+fn figures<'a>(word: &'a str) -> Option<&'a [u8]> {
+    let bits = word.as_bytes();
+    bits.iter()
+        .all(|bit| matches!(bit, b'0' | b'1'))
+        .then_some(bits)
 }
