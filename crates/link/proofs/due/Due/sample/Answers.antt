@@ -33,6 +33,6 @@ returns-in-None g c =
     let b = c.args.self.now.block in
     let p = c.args.place in
     let past : length ring ≤ (b % f.depth + p % f.depth) % f.depth * f.burst + p = search rules in
-    c.nothing_sample-in-None.ensures
+    c.NOTHING-in-None.ensures
     ∙ sym (ap (weighed k) (get_or_past ring _ k.NOTHING past) ∙ cond-true _ _ _ g.met.C.Cost.nothing_fit)
     ∙ in_cell k f ring b p c.if-place-burst.false
