@@ -3,6 +3,7 @@ use crate::told::{Told, told};
 use channels::bench::{CODE, LINE, open_bench};
 use cost::count::Count;
 use line::laying::Line;
+use link::memory::Memory;
 use std::array;
 use std::test::*;
 
@@ -30,11 +31,14 @@ fn apart(a: &[u8; 16], b: &[u8; 16]) -> usize {
 // What the block that a burst ends tells, and its message.
 fn heard(burst: &[u8]) -> (Option<Told>, [u8; 6]) {
     let mut receiver = open_bench::<Count>();
-    let mut ring = [2; 16];
-    let mut costs = [None; 8];
-    let mut paths = [0; 32];
     let mut block = [9; 6];
-    let reply = receiver.hear(burst, &mut ring, &mut costs, &mut paths, &mut block);
+    let mut memory = Memory {
+        ring: &mut [2; 16],
+        costs: &mut [None; 8],
+        paths: &mut [0; 32],
+        block: &mut block,
+    };
+    let reply = receiver.hear(burst, &mut memory);
     (told(reply), block)
 }
 

@@ -3,6 +3,8 @@ use crate::told::{Told, told};
 use channels::bench::{BenchLine, open_bench};
 use cost::count::Count;
 use line::unpunctured::Unpunctured;
+use link::memory::Memory;
+use link::proposal::Proposal;
 use link::receiver::Receiver;
 use std::test::*;
 use trellis::code::Code;
@@ -19,7 +21,14 @@ fn refusal_of(message: usize) -> u8 {
     let line = Unpunctured {
         bits: message.saturating_add(1),
     };
-    match Receiver::<Count, Unpunctured>::open(ROW, message, 0, 1, line) {
+    let proposal = Proposal {
+        code: ROW,
+        message,
+        parity: 0,
+        depth: 1,
+        line,
+    };
+    match Receiver::<Count, Unpunctured>::open(proposal) {
         Ok(_) => 0,
         Err(refusal) => refusal.number(),
     }
@@ -37,14 +46,11 @@ fn a_message_has_at_most_512_bits(rt: HostRuntime) -> Result<(), Fail> {
 fn missed(
     receiver: &mut Receiver<Count, BenchLine>,
     times: usize,
-    ring: &mut [u8],
-    costs: &mut [Option<u16>],
-    paths: &mut [u8],
-    block: &mut [u8],
+    memory: &mut Memory<Count>,
 ) -> usize {
     let mut last = 0;
     for _ in 0..times {
-        let reply = receiver.miss(ring, costs, paths, block);
+        let reply = receiver.miss(memory);
         if let Some((_, number, _, _)) = told(reply) {
             last = number;
         }
@@ -55,20 +61,14 @@ fn missed(
 #[test]
 fn a_million_bursts_are_counted(rt: HostRuntime) -> Result<(), Fail> {
     let mut receiver = open_bench::<Count>();
-    let mut ring = [2; 16];
-    let mut costs = [None; 8];
-    let mut paths = [0; 32];
-    let mut block = [0; 6];
-    let last = missed(
-        &mut receiver,
-        1_000_000,
-        &mut ring,
-        &mut costs,
-        &mut paths,
-        &mut block,
-    );
-    assert_eq!(rt; last, 999_999);
-    match receiver.miss(&mut ring, &mut costs, &mut paths, &mut block) {
+    let mut memory = Memory {
+        ring: &mut [2; 16],
+        costs: &mut [None; 8],
+        paths: &mut [0; 32],
+        block: &mut [0; 6],
+    };
+    assert_eq!(rt; missed(&mut receiver, 1_000_000, &mut memory), 999_999);
+    match receiver.miss(&mut memory) {
         Err(refusal) => {
             assert_eq!(rt; refusal.number(), 5);
             Ok(())
@@ -80,14 +80,23 @@ fn a_million_bursts_are_counted(rt: HostRuntime) -> Result<(), Fail> {
 // What a burst answers where parity is asked for.
 fn with_parity(burst: &[u8], block: &mut [u8]) -> Option<Told> {
     let line = Unpunctured { bits: 18 };
-    let Ok(mut receiver) = Receiver::<Count, Unpunctured>::open(ROW, 1, 16, 1, line) else {
+    let proposal = Proposal {
+        code: ROW,
+        message: 1,
+        parity: 16,
+        depth: 1,
+        line,
+    };
+    let Ok(mut receiver) = Receiver::<Count, Unpunctured>::open(proposal) else {
         return None;
     };
-    let mut ring = [2; 18];
-    let mut costs = [None; 4];
-    let mut paths = [0; 36];
-    let reply = receiver.hear(burst, &mut ring, &mut costs, &mut paths, block);
-    told(reply)
+    let mut memory = Memory {
+        ring: &mut [2; 18],
+        costs: &mut [None; 4],
+        paths: &mut [0; 36],
+        block,
+    };
+    told(receiver.hear(burst, &mut memory))
 }
 
 #[test]

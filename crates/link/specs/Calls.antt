@@ -29,15 +29,16 @@ pub record Memory (S P : Type 0) : Type 0 where
 abbrev pub lent : {C S P : Type 0} → memory.Memory C S P → Memory S P
 lent m = record { ring = m.ring.now; costs = m.costs.now; paths = m.paths.now; block = m.block.now }
 
--- both lend the same memory
+abbrev pub sizes : {S P : Type 0} → Memory S P → Sizes
+sizes m = record { ring = length m.ring; costs = length m.costs; paths = length m.paths; block = length m.block }
+
+-- both lend the same memory, which is as large in both
 pub record SameLoans {C S P : Type 0} (m m' : memory.Memory C S P) : Type 0 where
   pub ring : m'.ring.ghost_name ≡ m.ring.ghost_name
   pub costs : m'.costs.ghost_name ≡ m.costs.ghost_name
   pub paths : m'.paths.ghost_name ≡ m.paths.ghost_name
   pub block : m'.block.ghost_name ≡ m.block.ghost_name
-
-abbrev pub sizes : {S P : Type 0} → Memory S P → Sizes
-sizes m = record { ring = length m.ring; costs = length m.costs; paths = length m.paths; block = length m.block }
+  pub as_large : sizes (lent m') ≡ sizes (lent m)
 
 -- the protected bits of a path: what is left without the closing zeros, the newest bit first
 abbrev pub protected : {L : Type 0} → Format L → List Bool → List Bool
