@@ -87,7 +87,7 @@ impl Cost for Ranked {
         s == Self::NOTHING
     }
 
-    // Without a jump: what the sample would add is worked out before the bit chooses.
+    // No early return where nothing is overruled: that is slower.
     fn grown(self, s: i8, bit: bool) -> Ranked {
         let overruled = if bit { s > 0 } else { s < 0 };
         let strength = self.strength + overruled as u32 * s.unsigned_abs() as u32;
