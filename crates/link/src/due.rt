@@ -3,31 +3,19 @@ ghost use Rattle.std.specs.Prelude.{◌≡◌, ◌≤◌, length};
 ghost use Rattle.link.specs.Due.{met_on, in_ring, heard_of};
 ghost use Rattle.link.specs.Calls.{Finds};
 ghost use Rattle.link.specs.Rules.{needed};
-ghost use Rattle.trellis.specs.Met.{weighed};
 
 use crate::format::Format;
 use crate::report::Report;
 use cost::kind::Cost;
 use line::laying::Line;
 use trellis::decide::decide;
-use trellis::received::Received;
+use trellis::received::{Received, weighed};
 
 #[derive(Drop)]
 pub(crate) struct Due<'r, 'f, C: Cost, L: Line> {
     pub(crate) ring: &'r [C::Sample],
     pub(crate) format: &'f Format<L>,
     pub(crate) block: usize,
-}
-
-// An unfit sample is read as nothing.
-fn weighed<C: Cost>(sample: C::Sample) -> C::Sample
-    ensures { result ≡ weighed C.Cost sample }
-{
-    if C::is_fit(sample) {
-        sample
-    } else {
-        C::NOTHING
-    }
 }
 
 impl<'r, 'f, C: Cost, L: Line> Due<'r, 'f, C, L> {
