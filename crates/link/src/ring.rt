@@ -52,7 +52,8 @@ impl<'a, 'f, S: Copy, L> Ring<'a, 'f, S, L> {
     }
 }
 
-// Stores burst n in its cells of the ring.
+// Stores burst n in its cells of the ring. A function of its own, as the next: where hear itself makes the ring, a proof does not learn
+// that the memory's part holds what the ring's cells held last.
 pub(crate) fn store<S: Copy, L>(format: &Format<L>, n: usize, samples: &[S], ring: &mut [S])
     requires whole { length samples.now ≡ format.now.burst }
     requires room { format.now.depth * format.now.burst ≤ length ring.old }
