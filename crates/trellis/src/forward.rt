@@ -111,8 +111,10 @@ fn lay_down<C: Cost>(costs: &[C], new: &mut [Option<C::Plain>])
     requires { length new.old ≤ length costs.now }
     ensures { (s : ℕ) → s < length new.old → slice_index_or new.new s None ≡ Some (C.Cost.lay (slice_index_or costs.now s C.Cost.ZERO)) }
 {
-    for (s, cell) in new.iter_mut().enumerate() {
-        *cell = Some(costs[s].to_plain());
+    for (s, cost) in costs[..new.len()].iter().enumerate() {
+        // A cell made first and written whole: so the compiler lays many down at once.
+        let cell = Some(cost.to_plain());
+        new[s] = cell;
     }
 }
 
