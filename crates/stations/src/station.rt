@@ -37,6 +37,8 @@ impl<C: Cost> Station<C> {
         })
     }
 
+    // Each slice is named before it is lent, since the check does not follow a Vec into a field. One body for hear and miss, over an
+    // `Option` of a burst, meets lifetimes that the check does not cover.
     pub fn hear(&mut self, samples: &[C::Sample]) -> Result<Answer<C>, Refusal<C>>
         ensures { HearsHere C.Cost samples.now self.old result self.new }
     {
