@@ -1,9 +1,11 @@
 // The bench: how a message is coded and sent, and what hearing a burst answers.
-use crate::told::{Told, told};
+use crate::told::report;
 use channels::bench::{CODE, LINE, open_bench};
 use cost::count::Count;
 use line::laying::Line;
 use link::memory::Memory;
+use link::refusal::Refusal;
+use link::report::Answer;
 use std::array;
 use std::test::*;
 
@@ -13,10 +15,10 @@ fn coded(run: &[u8]) -> [u8; 16] {
 
 fn sent(run: &[u8]) -> [u8; 16] {
     let mut burst = [2; 16];
-    for j in 0..16 {
+    for (j, bit) in coded(run).iter().enumerate() {
         if let Some((place, turned)) = LINE.place_of(j) {
-            if place < 16 {
-                burst[place] = (CODE.coded_bit(run, j) ^ turned) as u8;
+            if let Some(sample) = burst.get_mut(place) {
+                *sample = *bit ^ turned as u8;
             }
         }
     }
@@ -28,8 +30,8 @@ fn apart(a: &[u8; 16], b: &[u8; 16]) -> usize {
     a.iter().zip(b).filter(|(x, y)| x != y).count()
 }
 
-// What the block that a burst ends tells, and its message.
-fn heard(burst: &[u8]) -> (Option<Told>, [u8; 6]) {
+// What a burst is answered, and the block memory after it.
+fn heard(burst: &[u8]) -> (Result<Answer<Count>, Refusal<Count>>, [u8; 6]) {
     let mut receiver = open_bench::<Count>();
     let mut block = [9; 6];
     let mut memory = Memory {
@@ -39,7 +41,7 @@ fn heard(burst: &[u8]) -> (Option<Told>, [u8; 6]) {
         block: &mut block,
     };
     let reply = receiver.hear(burst, &mut memory);
-    (told(reply), block)
+    (reply, block)
 }
 
 #[test]
@@ -61,13 +63,19 @@ fn a_tie_keeps_the_path_that_drops_a_zero(rt: HostRuntime) -> Result<(), Fail> {
     let burst = [1, 0, 0, 0, 0, 0, 0, 0, 0, 0, 1, 0, 0, 0, 1, 0];
     assert_eq!(rt; apart(&burst, &sent(&[0, 0, 0, 0, 0, 0])), 3);
     assert_eq!(rt; apart(&burst, &sent(&[1, 1, 0, 0, 0, 0])), 3);
-    assert_eq!(rt; heard(&burst), (Some((0, 0, 3, 16)), [0, 0, 0, 0, 0, 0]));
+    assert_eq!(rt;
+        heard(&burst),
+        (Ok(Answer::Block(report(0, 3, 16))), [0, 0, 0, 0, 0, 0])
+    );
     Ok(())
 }
 
 #[test]
 fn what_is_sent_is_heard_at_no_cost(rt: HostRuntime) -> Result<(), Fail> {
     let run = [1, 0, 1, 1, 0, 1];
-    assert_eq!(rt; heard(&sent(&run)), (Some((0, 0, 0, 16)), run));
+    assert_eq!(rt;
+        heard(&sent(&run)),
+        (Ok(Answer::Block(report(0, 0, 16))), run)
+    );
     Ok(())
 }

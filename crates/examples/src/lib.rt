@@ -16,6 +16,8 @@ mod masks;
 #[cfg(test)]
 mod playbacks;
 #[cfg(test)]
+mod played;
+#[cfg(test)]
 mod ranked;
 #[cfg(test)]
 mod recordings;

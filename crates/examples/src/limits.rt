@@ -1,11 +1,13 @@
 // The limits of a receiver: how long a message may be, how many bursts are counted, and what parity refuses.
-use crate::told::{Told, told};
+use crate::told::report;
 use channels::bench::{BenchLine, open_bench};
 use cost::count::Count;
 use line::unpunctured::Unpunctured;
 use link::memory::Memory;
 use link::proposal::Proposal;
 use link::receiver::Receiver;
+use link::refusal::Refusal;
+use link::report::Answer;
 use std::test::*;
 use trellis::code::Code;
 
@@ -16,8 +18,8 @@ const ROW: Code = Code {
     memory: 1,
 };
 
-// The number of the refusal that opening meets, or 0.
-fn refusal_of(message: usize) -> u8 {
+// The number of the refusal that opening meets, if it meets one.
+fn refusal_of(message: usize) -> Option<u8> {
     let line = Unpunctured {
         bits: message.saturating_add(1),
     };
@@ -28,17 +30,15 @@ fn refusal_of(message: usize) -> u8 {
         depth: 1,
         line,
     };
-    match Receiver::<Count, Unpunctured>::open(proposal) {
-        Ok(_) => 0,
-        Err(refusal) => refusal.number(),
-    }
+    let refused = Receiver::<Count, Unpunctured>::open(proposal).err()?;
+    Some(refused.number())
 }
 
 #[test]
 fn a_message_has_at_most_512_bits(rt: HostRuntime) -> Result<(), Fail> {
-    assert_eq!(rt; refusal_of(512), 0);
-    assert_eq!(rt; refusal_of(513), 2);
-    assert_eq!(rt; refusal_of(0), 2);
+    assert_eq!(rt; refusal_of(512), None);
+    assert_eq!(rt; refusal_of(513), Some(2));
+    assert_eq!(rt; refusal_of(0), Some(2));
     Ok(())
 }
 
@@ -50,9 +50,8 @@ fn missed(
 ) -> usize {
     let mut last = 0;
     for _ in 0..times {
-        let reply = receiver.miss(memory);
-        if let Some((_, number, _, _)) = told(reply) {
-            last = number;
+        if let Ok(Answer::Block(report)) = receiver.miss(memory) {
+            last = report.block;
         }
     }
     last
@@ -77,8 +76,8 @@ fn a_million_bursts_are_counted(rt: HostRuntime) -> Result<(), Fail> {
     }
 }
 
-// What a burst answers where parity is asked for.
-fn with_parity(burst: &[u8], block: &mut [u8]) -> Option<Told> {
+// What a burst is answered where parity is asked for.
+fn with_parity(burst: &[u8], block: &mut [u8]) -> Result<Answer<Count>, Refusal<Count>> {
     let line = Unpunctured { bits: 18 };
     let proposal = Proposal {
         code: ROW,
@@ -87,16 +86,14 @@ fn with_parity(burst: &[u8], block: &mut [u8]) -> Option<Told> {
         depth: 1,
         line,
     };
-    let Ok(mut receiver) = Receiver::<Count, Unpunctured>::open(proposal) else {
-        return None;
-    };
+    let mut receiver = Receiver::<Count, Unpunctured>::open(proposal)?;
     let mut memory = Memory {
         ring: &mut [2; 18],
         costs: &mut [None; 4],
         paths: &mut [0; 36],
         block,
     };
-    told(receiver.hear(burst, &mut memory))
+    receiver.hear(burst, &mut memory)
 }
 
 #[test]
@@ -106,9 +103,14 @@ fn wrong_parity_is_refused_and_writes_nothing(rt: HostRuntime) -> Result<(), Fai
     // the run 1 and its parity 0001000000100001
     let right = [1, 1, 0, 0, 1, 1, 0, 0, 0, 0, 0, 1, 1, 0, 0, 0, 1, 1];
     let mut block = [7];
-    assert_eq!(rt; with_parity(&wrong, &mut block), Some((11, 0, 0, 18)));
+    let refused = Refusal::WrongParity(report(0, 0, 18));
+    assert_eq!(rt; refused.number(), 11);
+    assert_eq!(rt; with_parity(&wrong, &mut block), Err(refused));
     assert_eq!(rt; block, [7]);
-    assert_eq!(rt; with_parity(&right, &mut block), Some((0, 0, 0, 18)));
+    assert_eq!(rt;
+        with_parity(&right, &mut block),
+        Ok(Answer::Block(report(0, 0, 18)))
+    );
     assert_eq!(rt; block, [1]);
     Ok(())
 }

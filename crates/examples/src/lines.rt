@@ -41,8 +41,8 @@ fn bursts_of_the_channels_go_by_columns(rt: HostRuntime) -> Result<(), Fail> {
 
 // Whether bits stay in their places, and are turned over from place `from` on as the figures say.
 fn turns<L: Line>(line: &L, from: usize, figures: &str) -> bool {
-    (from..).zip(figures.as_bytes())
-        .all(|(k, figure)| line.place_of(k) == Some((k, *figure == b'1')))
+    (from..).zip(figures.as_bytes()).all(|(k, figure)| line.place_of(k)
+        == Some((k, *figure == b'1')))
 }
 
 #[test]

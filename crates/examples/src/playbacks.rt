@@ -1,5 +1,5 @@
 // Recordings, and the lines that playing them makes.
-use recording::play::play;
+use crate::played::prints;
 use records::record::Openings;
 use std::alloc::{AllocError, Global};
 use std::process::Abort;
@@ -10,16 +10,10 @@ mod faults;
 mod marks;
 mod refusals;
 
-fn prints(rt: &impl Abort, alloc: Global, bytes: &[u8], lines: &str) -> Result<(), Fail> {
-    let played = play(alloc, Openings::All, bytes)?;
-    assert_eq!(rt; played.as_str(), lines);
-    Ok(())
-}
-
 // Recordings, each beside its lines.
 fn each_prints(rt: &impl Abort, alloc: Global, cases: &[(&[u8], &str)]) -> Result<(), Fail> {
     for (bytes, lines) in cases {
-        prints(rt, alloc, bytes, lines)?;
+        prints(rt, alloc, Openings::All, bytes, lines)?;
     }
     Ok(())
 }
@@ -44,7 +38,7 @@ const RANKED: [u8; 2] = [0x7F, 0x81];
 fn plays(rt: &impl Abort, alloc: Global, parts: &[Part<'_>], texts: &[&str]) -> Result<(), Fail> {
     let bytes = recorded(alloc, parts)?;
     let lines = joined(alloc, texts)?;
-    prints(rt, alloc, &bytes, lines.as_str())
+    prints(rt, alloc, Openings::All, &bytes, lines.as_str())
 }
 
 fn recorded(heap: Global, parts: &[Part<'_>]) -> Result<Vec<u8>, AllocError> {

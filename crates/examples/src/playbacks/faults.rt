@@ -1,8 +1,8 @@
 // Every reason for refusal 12: its line tells where the record's mark stands, and nothing is read after it.
-use super::{Part, each_prints, plays, prints};
+use super::{Part, each_prints, plays};
 use crate::bursts::DATA24_0;
-use std::alloc::Global;
-use std::process::Abort;
+use crate::played::long_burst;
+use records::record::Openings;
 use std::test::*;
 
 const FIRST: [(&[u8], &str); 4] = [
@@ -68,25 +68,12 @@ fn a_long_burst_cut(rt: HostRuntime) -> Result<(), Fail> {
     )
 }
 
-fn long_burst(
-    rt: &impl Abort,
-    alloc: Global,
-    header: &[u8],
-    samples: usize,
-    lines: &str,
-) -> Result<(), Fail> {
-    let mut bytes = header.to_vec(alloc)?;
-    for _ in 0..samples {
-        bytes.push(2)?;
-    }
-    prints(rt, alloc, &bytes, lines)
-}
-
 #[test]
 fn most_samples(rt: HostRuntime) -> Result<(), Fail> {
     long_burst(
         &rt,
         rt.alloc(),
+        Openings::All,
         b"OP\x00\x00HE\x04\x00",
         1024,
         "O 0\nX 6 1024\n",
@@ -94,6 +81,7 @@ fn most_samples(rt: HostRuntime) -> Result<(), Fail> {
     long_burst(
         &rt,
         rt.alloc(),
+        Openings::All,
         b"OP\x00\x00HE\x04\x01",
         1025,
         "O 0\nX 12 4\n",
