@@ -1,6 +1,7 @@
 // Why a call was refused. Each refusal tells its number, whom it concerns, and a detail.
 ghost use Rattle.std.specs.Prelude.{◌≡◌};
 ghost use Rattle.link.specs.Refusals.{told};
+ghost use Rattle.link.specs.Rules.{passed, unless};
 
 use crate::report::Report;
 use cost::kind::Cost;
@@ -74,4 +75,11 @@ impl<C: Cost> Refusal<C> {
             _ => 0,
         }
     }
+}
+
+// Passes where a rule holds, and is refused where it is broken.
+pub(crate) fn unless<C: Cost>(holds: bool, refusal: Refusal<C>) -> Result<(), Refusal<C>>
+    ensures { result ≡ passed (unless holds refusal) }
+{
+    if holds { Ok(()) } else { Err(refusal) }
 }

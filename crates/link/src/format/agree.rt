@@ -5,7 +5,7 @@ ghost use Rattle.link.specs.Rules.{lengths_suit, line_suits};
 
 use super::Format;
 use crate::proposal::Proposal;
-use crate::refusal::Refusal;
+use crate::refusal::{Refusal, unless};
 use cost::kind::Cost;
 use line::laying::Line;
 
@@ -43,15 +43,10 @@ impl<L: Line> Format<L> {
             depth,
             line,
         } = proposal;
-        if !code.is_sound() {
-            return Err(Refusal::UnsoundCode);
-        }
-        if !lengths_suit(message, parity, depth) {
-            return Err(Refusal::BadLengths);
-        }
-        if !line_suits(&line, code.rows * (message + parity + code.memory)) {
-            return Err(Refusal::UnsuitedLine);
-        }
+        unless(code.is_sound(), Refusal::UnsoundCode)?;
+        unless(lengths_suit(message, parity, depth), Refusal::BadLengths)?;
+        let coded = code.rows * (message + parity + code.memory);
+        unless(line_suits(&line, coded), Refusal::UnsuitedLine)?;
         let burst = line.burst_bits();
         Ok(Format {
             code,

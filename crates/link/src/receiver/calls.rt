@@ -8,7 +8,7 @@ use super::Receiver;
 use crate::format::Format;
 use crate::memory::Memory;
 use crate::proposal::Proposal;
-use crate::refusal::Refusal;
+use crate::refusal::{Refusal, unless};
 use crate::report::Answer;
 use crate::ring::{store, store_same};
 use cost::kind::Cost;
@@ -57,9 +57,7 @@ impl<C: Cost, L: Line> Receiver<C, L> {
     pub fn stolen(&self) -> Result<usize, Refusal<C>>
         ensures { Steals C.Cost L.Line self.now result self.now }
     {
-        if self.format.depth == 1 {
-            return Err(Refusal::NotStealable);
-        }
+        unless(self.format.depth != 1, Refusal::NotStealable)?;
         Ok(self.counted)
     }
 

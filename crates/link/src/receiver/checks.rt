@@ -5,7 +5,7 @@ ghost use Rattle.link.specs.Rules.{all_fit, enough, first, hear_rules, memory_ru
 use super::Receiver;
 use crate::format::Format;
 use crate::memory::Sizes;
-use crate::refusal::Refusal;
+use crate::refusal::{Refusal, unless};
 use cost::kind::Cost;
 use line::laying::Line;
 
@@ -29,21 +29,7 @@ impl<L: Line> Format<L> {
 fn check_size<C: Cost>(size: usize, lent: usize) -> Result<(), Refusal<C>>
     ensures { result ≡ passed (enough size lent) }
 {
-    if size <= lent {
-        Ok(())
-    } else {
-        Err(Refusal::ShortMemory { needed: size })
-    }
-}
-
-fn check_count<C: Cost>(counted: usize) -> Result<(), Refusal<C>>
-    ensures { result ≡ passed (room counted) }
-{
-    if counted < MOST_BURSTS {
-        Ok(())
-    } else {
-        Err(Refusal::CountFull)
-    }
+    unless(size <= lent, Refusal::ShortMemory { needed: size })
 }
 
 fn check_fit<C: Cost>(samples: &[C::Sample]) -> Result<(), Refusal<C>>
@@ -86,18 +72,15 @@ impl<C: Cost, L: Line> Receiver<C, L> {
         ensures { result ≡ passed (first (miss_rules self.now.format lent self.now.counted)) }
     {
         self.check_memory(lent)?;
-        check_count::<C>(self.counted)
+        unless(self.counted < MOST_BURSTS, Refusal::CountFull)
     }
 
     pub(super) fn check_hear(&self, samples: &[C::Sample], lent: Sizes) -> Result<(), Refusal<C>>
         ensures { result ≡ passed (first (hear_rules C.Cost self.now.format lent self.now.counted samples.now)) }
     {
         self.check_miss(lent)?;
-        if samples.len() != self.format.burst {
-            return Err(Refusal::WrongCount {
-                given: samples.len(),
-            });
-        }
+        let given = samples.len();
+        unless(given == self.format.burst, Refusal::WrongCount { given })?;
         check_fit::<C>(samples)
     }
 }
