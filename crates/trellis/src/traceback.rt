@@ -17,6 +17,7 @@ impl Trellis {
     }
 
     // Goes back a step at a time and writes the bit that entered at the head of the step's row.
+    // By step number, since it reads and writes one slice.
     fn trace(&self, steps: usize, paths: &mut [u8])
         requires steps { steps ≤ 2048 }
         requires whole { length paths.old ≡ steps * 2 ^ self.now.code.memory }
@@ -32,7 +33,7 @@ impl Trellis {
         }
     }
 
-    // Moves the head of each row to its place at the front. It reads and writes one slice, so it goes by index.
+    // Moves the head of each row to its place at the front. By index for the same reason.
     fn gather(&self, steps: usize, paths: &mut [u8])
         requires steps { steps ≤ 2048 }
         requires whole { length paths.old ≡ steps * 2 ^ self.now.code.memory }
