@@ -78,7 +78,7 @@ fn masked(k: usize) -> bool
     }
 }
 
-// The register after that many clocks, element 1 lowest.
+// The register after that many clocks, element 1 lowest. The clocks are only counted; nothing is indexed.
 fn run(clocks: usize) -> u64
     ensures { result ≡ number (register clocks) }
 {

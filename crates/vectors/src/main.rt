@@ -21,13 +21,9 @@ fn decode_all(rt: &HostRuntime, vectors: &[Vector<'_>]) -> anyhow::Result<()> {
     Ok(())
 }
 
-fn run(rt: &HostRuntime) -> anyhow::Result<()> {
+fn main(rt: HostRuntime) -> anyhow::Result<()> {
     let mut text = String::new(rt.alloc());
     rt.stdin().read_to_string(&mut text)?;
     let vectors = read_vectors(rt.alloc(), text.as_str())?;
-    decode_all(rt, &vectors)
-}
-
-fn main(rt: HostRuntime) -> anyhow::Result<()> {
-    run(&rt)
+    decode_all(&rt, &vectors)
 }

@@ -51,6 +51,7 @@ impl Tables<'_> {
     }
 }
 
+// Of four numbers: within the method a proof does not learn what the product tells.
 fn covers(steps: usize, ends: usize, times: usize, period: usize) -> bool
     ensures { result ≡ nat_le (ends + times * period) steps }
 {

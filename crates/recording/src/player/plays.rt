@@ -93,7 +93,8 @@ impl<'a> Player<'a> {
     }
 }
 
-// Makes the call that the record asks for, and writes the line of its answer. An opening is no call, and the answer is false.
+// Makes the call that the record asks for, and writes the line of its answer. An opening is no call, and the answer is false: an enum of
+// the calls alone would say the records again. Over `lines` and not the player, of which nothing else changes.
 fn answer<C: Figured>(
     heap: Global,
     station: &mut Station<C>,
