@@ -1,6 +1,6 @@
 // The ring of the last bursts: sample k of burst n lies in cell (n mod depth) * burst + k.
 ghost use Rattle.std.specs.Prelude.{◌≡◌, ◌+◌, ◌*◌, ◌≤◌, length, replicate};
-ghost use Rattle.link.specs.Due.{cell, laid_at, stored};
+ghost use Rattle.link.specs.Due.{cell, stored};
 
 use crate::format::Format;
 

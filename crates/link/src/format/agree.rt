@@ -1,5 +1,5 @@
 // Opening holds what it is handed against the rules, in the order of their numbers.
-ghost use Rattle.std.specs.Prelude.{◌≡◌, ◌≤◌};
+ghost use Rattle.std.specs.Prelude.{◌≡◌};
 ghost use Rattle.link.specs.Opening.{Agrees};
 ghost use Rattle.link.specs.Rules.{lengths_suit, line_suits};
 

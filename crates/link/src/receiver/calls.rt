@@ -1,6 +1,4 @@
 // The calls of a receiver. Memory is lent at each hear and miss; a refusal has written nothing.
-ghost use Rattle.std.specs.Prelude.{◌≡◌, ◌*◌, ◌≤◌, length, replicate};
-ghost use Rattle.link.specs.Due.{stored};
 ghost use Rattle.link.specs.Calls.{Hears, Misses, Steals, Restarts, SameLoans, lent};
 ghost use Rattle.link.specs.Opening.{Opens};
 

@@ -1,5 +1,5 @@
 // The checks of hear and miss, in the order of the refusals' numbers.
-ghost use Rattle.std.specs.Prelude.{◌≡◌, ◌*◌, ◌^◌, ◌≤◌, [], ◌∷◌, length};
+ghost use Rattle.std.specs.Prelude.{◌≡◌, ◌*◌, ◌^◌};
 ghost use Rattle.link.specs.Rules.{all_fit, enough, first, hear_rules, memory_rules, miss_rules, needed, passed, room, steps};
 
 use super::Receiver;
