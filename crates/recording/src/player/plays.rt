@@ -94,7 +94,8 @@ impl<'a> Player<'a> {
 }
 
 // Makes the call that the record asks for, and writes the line of its answer. An opening is no call, and the answer is false: an enum of
-// the calls alone would say the records again. Over `lines` and not the player, of which nothing else changes.
+// the calls alone would say the records again. No method, which would have to say that the place and the bytes stay. Each arm writes
+// its line, since a line that lends the message is not yet made in two arms.
 fn answer<C: Figured>(
     heap: Global,
     station: &mut Station<C>,
@@ -127,7 +128,7 @@ where
     Ok(true)
 }
 
-// Writes the line with its end.
+// Writes the line with its end. The line is lent, since one by value is not yet covered.
 fn put<C: Figured>(lines: &mut String, line: &Line<Bits<'_>, C>) -> Result<(), AllocError>
     ensures { OnOk result (string_bytes lines.new ≡ string_bytes lines.old ++ written (text C.Figured.figures line.now)) }
 {
