@@ -1,8 +1,10 @@
 // The byte that names a channel.
-ghost use Rattle.std.specs.Prelude.{◌≡◌, MatchResult};
+ghost use Rattle.std.specs.Prelude.{◌≡◌, MatchResult, ◌++◌, Some, codes, decimal};
 ghost use Rattle.channels.specs.Bytes.{channel_byte, NamesNone};
 
 use crate::channel::Channel;
+use std::error::Error;
+use std::fmt;
 
 // A byte that names no channel.
 #[derive(Clone, Copy, Debug, PartialEq, Eq)]
@@ -36,3 +38,13 @@ impl TryFrom<u8> for Channel {
         }
     }
 }
+
+impl fmt::Display for UnknownChannel {
+    ghost output = { λ e. Some (codes "no channel has the byte " ++ decimal e.0) };
+
+    fn fmt<W: fmt::Write>(&self, f: &mut fmt::Formatter<W>) -> fmt::Result {
+        write!(f, "no channel has the byte {}", self.0)
+    }
+}
+
+impl Error for UnknownChannel {}

@@ -1,8 +1,10 @@
 // The records of a recording.
-ghost use Rattle.std.specs.Prelude.{◌≡◌, MatchResult};
+ghost use Rattle.std.specs.Prelude.{◌≡◌, MatchResult, ◌++◌, Some, codes, decimal};
 ghost use Rattle.records.specs.Records.{has, kind_byte, NamesNoKind};
 
 use channels::channel::Channel;
+use std::error::Error;
+use std::fmt;
 
 // The kind of path cost that a channel is opened with.
 #[derive(Clone, Copy, Debug, PartialEq, Eq)]
@@ -30,6 +32,16 @@ pub enum Record<'a> {
 // A byte that names no kind.
 #[derive(Clone, Copy, Debug, PartialEq, Eq)]
 pub struct UnknownKind(pub u8);
+
+impl fmt::Display for UnknownKind {
+    ghost output = { λ e. Some (codes "no kind of cost has the byte " ++ decimal e.0) };
+
+    fn fmt<W: fmt::Write>(&self, f: &mut fmt::Formatter<W>) -> fmt::Result {
+        write!(f, "no kind of cost has the byte {}", self.0)
+    }
+}
+
+impl Error for UnknownKind {}
 
 impl TryFrom<u8> for Kind {
     type Error = UnknownKind;

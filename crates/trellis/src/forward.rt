@@ -172,7 +172,7 @@ impl Trellis {
     }
 
     // One step: from the cells after t steps to those after one more, and the row of marks between them.
-    // Inlined into the loop over the steps, it grows windows by branches, at half the speed.
+    // Inlined into the loop over the steps, it grows the windows of the ranked kind by branches, and takes a quarter to a half longer.
     #[inline(never)]
     fn step<C: Cost, H: Received<Sample = C::Sample>>(
         &self,
