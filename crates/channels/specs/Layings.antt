@@ -1,6 +1,10 @@
 -- What the laying of a channel means: what the one that it holds means.
-use Rattle.std.specs.Prelude.{ℕ, Bool, Option}
+use Rattle.std.specs.Prelude.{ℕ, Bool, Option, ◌≡◌, ◌&&◌}
 use Rattle.line.specs.declared.laying.Line.{Ghosts}
+use Rattle.line.specs.Interleaver.{interleaved, whole_rows}
+use Rattle.line.specs.Scrambler.{scrambled}
+use Rattle.puncture.specs.Masks.{Masks, sound, coded_of, pattern}
+use Rattle.puncture.specs.Patterns.{kept, numbered}
 use Rattle.line.specs.Lines.{interleaved_line, scrambled_line, unpunctured_line}
 use Rattle.puncture.specs.Laying.{mask_line}
 use Rattle.channels.specs.declared.laying.Laying.{Laying}
@@ -28,3 +32,10 @@ laid_place (Punctured l) = (scrambled_line (interleaved_line mask_line)).place l
 
 abbrev pub laying_line : Ghosts Laying
 laying_line = record { coded = laid_coded; sent = laid_sent; suited = laid_suited; place = laid_place }
+
+-- a laying that punctures by these masks, and then interleaves and scrambles
+pub record Punctures (m : Masks) (l : Laying) : Type 0 where
+  pub coded : laying_line.coded l ≡ coded_of m
+  pub suited : laying_line.suited l ≡ (sound m && whole_rows (kept (pattern m)))
+  pub sent : laying_line.sent l ≡ kept (pattern m)
+  pub places : (j : ℕ) → laying_line.place l j ≡ scrambled (interleaved (kept (pattern m)) (numbered (pattern m) j))

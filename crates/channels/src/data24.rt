@@ -1,14 +1,9 @@
 // The 2.4 kbit/s data channel: 144 message bits and no parity, punctured to 648, interleaved and scrambled, three bursts a block.
-ghost use Rattle.puncture.specs.Laying.{Lays};
 ghost use Rattle.channels.specs.Channels.{Proposes};
-ghost use Rattle.channels.specs.Tables.{data24_masks};
 ghost use Rattle.channels.specs.declared.channel.Channel.TheVariants.{Data24};
 
 use crate::laying::Laying;
-use line::interleaver::Interleaved;
-use line::scrambler::Scrambled;
 use link::proposal::Proposal;
-use puncture::mask::Mask;
 use puncture::mask::tables::Tables;
 use trellis::code::Code;
 
@@ -43,12 +38,6 @@ pub const MASKS: Tables<'static> = Tables {
     suffix: Some(&SUFFIX),
 };
 
-fn mask() -> Mask
-    ensures { Lays data24_masks result }
-{
-    Mask::new(&MASKS)
-}
-
 // What a receiver of the channel is opened with.
 pub fn proposal() -> Proposal<Laying>
     ensures { Proposes Data24 result }
@@ -58,6 +47,6 @@ pub fn proposal() -> Proposal<Laying>
         message: MESSAGE,
         parity: PARITY,
         depth: DEPTH,
-        line: Laying::Punctured(Scrambled(Interleaved(mask()))),
+        line: Laying::punctured(&MASKS),
     }
 }

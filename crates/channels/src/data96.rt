@@ -1,15 +1,10 @@
 // The 9.6 kbit/s data channel: 480 message bits and no parity, punctured to 648, interleaved and scrambled, three bursts a block.
-ghost use Rattle.puncture.specs.Laying.{Lays};
 ghost use Rattle.channels.specs.Channels.{Proposes};
-ghost use Rattle.channels.specs.Tables.{data96_masks};
 ghost use Rattle.channels.specs.declared.channel.Channel.TheVariants.{Data96};
 
 use crate::bcch;
 use crate::laying::Laying;
-use line::interleaver::Interleaved;
-use line::scrambler::Scrambled;
 use link::proposal::Proposal;
-use puncture::mask::Mask;
 use puncture::mask::tables::Tables;
 use trellis::code::Code;
 
@@ -40,12 +35,6 @@ pub const MASKS: Tables<'static> = Tables {
     suffix: Some(&SUFFIX),
 };
 
-fn mask() -> Mask
-    ensures { Lays data96_masks result }
-{
-    Mask::new(&MASKS)
-}
-
 // What a receiver of the channel is opened with.
 pub fn proposal() -> Proposal<Laying>
     ensures { Proposes Data96 result }
@@ -55,6 +44,6 @@ pub fn proposal() -> Proposal<Laying>
         message: MESSAGE,
         parity: PARITY,
         depth: DEPTH,
-        line: Laying::Punctured(Scrambled(Interleaved(mask()))),
+        line: Laying::punctured(&MASKS),
     }
 }
