@@ -14,22 +14,15 @@ struct Case {
 
 // Whether the kept bits have the places from 0 on, unturned, and the others none.
 fn keeps(mask: &Mask, kept: &str) -> bool {
-    let mut next: usize = 0;
-    for (j, figure) in kept.as_bytes().iter().enumerate() {
-        let place = if *figure == b'1' {
-            Some((next, false))
-        } else {
-            None
-        };
-        if mask.place_of(j) != place {
-            return false;
-        }
-        if place.is_some() {
-            next = next.saturating_add(1);
-        }
-    }
-    let ended = mask.place_of(kept.len()).is_none();
-    ended && mask.burst_bits() == next && mask.coded_bits() == kept.len()
+    let bits = kept.as_bytes();
+    let ones = bits.iter().enumerate().filter(|(_, bit)| **bit == b'1');
+    let mut noughts = bits.iter().enumerate().filter(|(_, bit)| **bit != b'1');
+    let sent = bits.iter().filter(|bit| **bit == b'1').count();
+    ones.enumerate()
+        .all(|(k, (j, _))| mask.place_of(j) == Some((k, false)))
+        && noughts.all(|(j, _)| mask.place_of(j).is_none())
+        && mask.place_of(bits.len()).is_none()
+        && (mask.coded_bits(), mask.burst_bits()) == (bits.len(), sent)
 }
 
 // Each mask suits as told, and keeps its bits.

@@ -13,9 +13,8 @@ fn grown(mut cost: Ranked, times: usize, sample: i8, bit: bool) -> Ranked {
     cost
 }
 
-fn pair(cost: Ranked) -> (u16, u32) {
-    let form = cost.to_plain();
-    (form.count, form.strength)
+fn form(count: u16, strength: u32) -> RankedForm {
+    RankedForm { count, strength }
 }
 
 // How many times zero is grown, by which sample, against which bit, and what comes of it.
@@ -37,8 +36,9 @@ const GROWN: [(usize, i8, bool, (u16, u32)); 12] = [
 
 #[test]
 fn overruled_samples_add_up(rt: HostRuntime) -> Result<(), Fail> {
-    for (times, sample, bit, sum) in GROWN {
-        assert_eq!(rt; pair(grown(Ranked::ZERO, times, sample, bit)), sum);
+    for (times, sample, bit, (count, strength)) in GROWN {
+        let sum = grown(Ranked::ZERO, times, sample, bit);
+        assert_eq!(rt; sum.to_plain(), form(count, strength));
     }
     Ok(())
 }
@@ -46,8 +46,8 @@ fn overruled_samples_add_up(rt: HostRuntime) -> Result<(), Fail> {
 #[test]
 fn at_the_last_count_other_samples_add_nothing(rt: HostRuntime) -> Result<(), Fail> {
     let last = grown(Ranked::ZERO, 65_535, 1, true);
-    assert_eq!(rt; pair(grown(last, 1, 0, true)), (65_535, 65_535));
-    assert_eq!(rt; pair(grown(last, 1, 127, false)), (65_535, 65_535));
+    assert_eq!(rt; grown(last, 1, 0, true).to_plain(), form(65_535, 65_535));
+    assert_eq!(rt; grown(last, 1, 127, false).to_plain(), form(65_535, 65_535));
     Ok(())
 }
 
@@ -84,9 +84,9 @@ const TAKEN_UP: [((u16, u32), (u16, u32)); 8] = [
 
 #[test]
 fn forms_too_strong_for_their_count_are_zero(rt: HostRuntime) -> Result<(), Fail> {
-    for ((count, strength), sum) in TAKEN_UP {
-        let form = RankedForm { count, strength };
-        assert_eq!(rt; pair(Ranked::of_plain(form)), sum);
+    for (plain, (count, strength)) in TAKEN_UP {
+        let cost = Ranked::of_plain(form(plain.0, plain.1));
+        assert_eq!(rt; cost.to_plain(), form(count, strength));
     }
     Ok(())
 }
