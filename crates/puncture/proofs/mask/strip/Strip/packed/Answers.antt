@@ -6,12 +6,6 @@ use Rattle.puncture.proofs.mask.strip.Strip.packed.Goals as goal
 use Rattle.puncture.specs.Masks.{column, columns, width}
 use Rattle.puncture.specs.Strips.{held}
 
-pub loop-c-init : goal.loop-c-init
-loop-c-init c =
-    let t = map (λ x. x.now) c.args.table.now in
-    let all : width t - 0 ≡ width t = omega arith in
-    ap (λ p. p ++ columns t 0 (width t - 0)) c.empty-strip.ensures ∙ ap (columns t 0) all
-
 pub with_column-strip-requires : goal.with_column-strip-requires
 with_column-strip-requires c =
     let t = map (λ x. x.now) c.args.table.now in
@@ -29,9 +23,3 @@ loop-c-preserved c =
     ∙ ap (λ p. held c.loop-c.strip ++ p) (sym (columns_from t i (width t) (omega arith)))
     ∙ c.loop-c.invariant
 
-pub returns : goal.returns
-returns c =
-    let t = map (λ x. x.now) c.args.table.now in
-    let i = c.loop-c.c in
-    let none : width t - i ≡ 0 = omega arith in
-    sym (append-nil (held c.loop-c.strip)) ∙ ap (λ n. held c.loop-c.strip ++ columns t i n) (sym none) ∙ c.loop-c.invariant
