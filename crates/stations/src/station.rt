@@ -74,12 +74,12 @@ impl<C: Cost> Station<C> {
         } = self;
         let ring: &mut [C::Sample] = ring;
         let costs: &mut [Option<C::Plain>] = costs;
-        let paths: &mut [u8] = paths;
+        let record: &mut [u8] = paths;
         let block: &mut [u8] = block;
         let mut memory = Memory {
             ring,
             costs,
-            paths,
+            paths: record,
             block,
         };
         receiver.miss(&mut memory)

@@ -1,5 +1,5 @@
-use Rattle.std.proofs.Common.{◌≡◌, ◌+◌, ◌-◌, ◌++◌, map, length, sym, ap, ◌∙◌, arith}
-use Rattle.std.proofs.lemmas.List.{append_assoc, append-nil, length-append, length-map}
+use Rattle.std.proofs.Common.{◌+◌, ◌-◌, ◌++◌, map, length, sym, ap, ◌∙◌, arith}
+use Rattle.std.proofs.lemmas.List.{append_assoc, length-append, length-map}
 use Rattle.puncture.specs.Packing.{length_bits}
 use Rattle.puncture.proofs.Tables.{columns_from}
 use Rattle.puncture.proofs.mask.strip.Strip.packed.Goals as goal
@@ -22,4 +22,3 @@ loop-c-preserved c =
     ∙ append_assoc (held c.loop-c.strip) (column t i) rest
     ∙ ap (λ p. held c.loop-c.strip ++ p) (sym (columns_from t i (width t) (omega arith)))
     ∙ c.loop-c.invariant
-
