@@ -4,6 +4,8 @@ use crate::hearing::take;
 use crate::trial::{Named, Trial};
 use crate::vector::Vector;
 use channels::channel::Channel;
+use link::refusal::Refusal;
+use link::report::Answer;
 use recording::figures::Figured;
 use recording::printed::{Bits, Line};
 use stations::station::Station;
@@ -36,8 +38,18 @@ fn decode_under<C: Figured>(
     let sent = vectors.iter().filter(|vector| vector.channel == channel);
     for (n, vector) in sent.enumerate() {
         let reply = take::<C>(rt.alloc(), &mut station, trial.condition, n, vector.burst)?;
-        let line = Line::Answered(reply, Bits(station.message()));
-        println!(rt; "{trial} {line}")?;
+        print_reply(rt, &trial, reply, station.message())?;
     }
+    Ok(())
+}
+
+fn print_reply<C: Figured>(
+    rt: &HostRuntime,
+    trial: &Trial<'_>,
+    reply: Result<Answer<C>, Refusal<C>>,
+    message: &[u8],
+) -> anyhow::Result<()> {
+    let line = Line::Answered(reply, Bits(message));
+    println!(rt; "{trial} {line}")?;
     Ok(())
 }
