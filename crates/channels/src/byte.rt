@@ -6,7 +6,7 @@ use crate::channel::Channel;
 use std::error::Error;
 use std::fmt;
 
-// A byte that names no channel.
+// A byte that names no channel; of a type of its own, since a caller tells it from a byte that names no kind.
 #[derive(Clone, Copy, Debug, PartialEq, Eq)]
 pub struct UnknownChannel(pub u8);
 

@@ -13,6 +13,7 @@ pub(crate) fn open<C: Cost, L: Line>(proposal: Proposal<L>) -> Receiver<C, L>
 {
     match Receiver::<C, L>::open(proposal) {
         Ok(receiver) => receiver,
+        // No `expect`: the check has to see that no rule is broken.
         Err(_) => unreachable(),
     }
 }

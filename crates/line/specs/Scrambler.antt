@@ -1,7 +1,7 @@
 -- The scrambler: a burst's bits are turned over where the masking sequence, begun anew at each block, has a one.
 use Rattle.std.specs.Prelude.{ℕ, zero, suc, ◌+◌, ◌*◌, Bool, true, false, cond, not, List, [], ◌∷◌, take, Some, None, Option, slice_index_or}
 
--- the sum modulo 2
+-- the sum modulo 2; a word of its own, since the library's does not compute in a proof
 abbrev pub sum : Bool → Bool → Bool
 sum true b = not b
 sum false b = b

@@ -20,6 +20,7 @@ pub trait Line: Sized + Copy {
     fn suits(&self) -> bool
         ensures { result ≡ suited self.now };
 
+    // A pair: whether the bit is turned tells nothing of whether it is sent.
     fn place_of(&self, j: usize) -> Option<(usize, bool)>
         ensures { result ≡ place self.now j };
 

@@ -50,6 +50,7 @@ impl<L: Line> Line for Scrambled<L> {
 
     ghost ended = { (scrambled_laws (laws_of L.Line)).ended };
 
+    // Handed on by hand, as in every layer: a trait of layers would be longer.
     fn coded_bits(&self) -> usize {
         self.0.coded_bits()
     }

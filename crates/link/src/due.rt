@@ -57,6 +57,7 @@ impl<'r, 'f, C: Cost, L: Line> Due<'r, 'f, C, L> {
             costs,
             paths,
         ) else {
+            // The check has to see that the decoder can run.
             unreachable()
         };
         Report {

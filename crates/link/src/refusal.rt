@@ -35,6 +35,7 @@ pub enum Refusal<C: Cost> {
 }
 
 impl<C: Cost> Refusal<C> {
+    // The number and the detail, 0 where none is named, are what a refusal tells outside; inside it is the enum.
     pub fn number(&self) -> u8
         ensures { result ≡ (told self.now).number }
     {

@@ -6,7 +6,7 @@ use Rattle.puncture.specs.declared.mask.Packed.{Packed}
 use Rattle.puncture.specs.declared.mask.strip.Strip.{Strip}
 use Rattle.puncture.specs.Patterns.{times_over}
 
--- the n lowest bits of a number, the lowest first
+-- the n lowest bits of a number, the lowest first; the trellis has the same word, and neither crate knows the other
 abbrev pub bits : ℕ → ℕ → List Bool
 bits zero v = []
 bits (suc n) v = (v % 2 == 1) ∷ bits n (v / 2)

@@ -4,7 +4,7 @@ ghost use Rattle.std.specs.Prelude.{◌≤◌, length};
 use records::record::Openings;
 use std::alloc::Global;
 
-pub mod plays;
+mod plays;
 
 // The openings that are known, the bytes, the place up to which they have been played, and the lines so far.
 #[derive(Drop)]

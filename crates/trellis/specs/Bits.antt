@@ -4,6 +4,7 @@ use Rattle.std.specs.Prelude.{ℕ, zero, suc, ◌/◌, ◌%◌, Bool, true, fals
 abbrev pub odd : ℕ → Bool
 odd n = n % 2 == 1
 
+-- the sum modulo 2; a word of its own, since the library's does not compute in a proof
 abbrev pub xor : Bool → Bool → Bool
 xor true b = not b
 xor false b = b

@@ -9,10 +9,10 @@ impl Code {
     pub fn is_sound(&self) -> bool
         ensures { result ≡ sound self.now }
     {
-        if self.rows < 1 || self.rows > 5 || self.memory < 1 || self.memory > 4 {
-            return false;
-        }
-        self.taps_within_memory() && self.taps[0] & 1 == 1
+        (1..=5).contains(&self.rows)
+            && (1..=4).contains(&self.memory)
+            && self.taps_within_memory()
+            && self.taps[0] & 1 == 1
     }
 
     // No row has a tap older than the memory.

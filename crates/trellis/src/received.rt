@@ -9,6 +9,7 @@ pub trait Received {
 
     ghost met: { Self → ℕ → List (Self.Sample × Bool) };
 
+    // A pair: whether the bit was turned tells nothing of whether it was sent.
     fn met_at(&self, j: usize) -> Option<(Self::Sample, bool)>
         ensures { listed result ≡ met self.now j };
 }

@@ -22,6 +22,7 @@ impl Line for Laying {
 
     ghost ended = { Layings.ended };
 
+    // Each method asks the line that is held, which has a type of its own.
     fn coded_bits(&self) -> usize {
         match self {
             Laying::Whole(line) => line.coded_bits(),

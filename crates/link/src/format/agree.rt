@@ -19,8 +19,8 @@ fn lengths_suit(message: usize, parity: usize, depth: usize) -> bool
     ensures { result ≡ lengths_suit message parity depth }
 {
     (1..=MOST_MESSAGE).contains(&message)
-        && (parity == 0 || parity == 16)
-        && (depth == 1 || depth == 3)
+        && matches!(parity, 0 | 16)
+        && matches!(depth, 1 | 3)
 }
 
 fn line_suits<L: Line>(line: &L, coded: usize) -> bool

@@ -1,6 +1,6 @@
 // The checks of hear and miss, in the order of the refusals' numbers.
 ghost use Rattle.std.specs.Prelude.{◌≡◌, ◌*◌, ◌^◌};
-ghost use Rattle.link.specs.Rules.{all_fit, enough, first, hear_rules, memory_rules, miss_rules, needed, passed, room, steps};
+ghost use Rattle.link.specs.Rules.{all_fit, enough, first, hear_rules, memory_rules, miss_rules, needed, passed, steps};
 
 use super::Receiver;
 use crate::format::Format;
@@ -32,6 +32,7 @@ fn check_size<C: Cost>(size: usize, lent: usize) -> Result<(), Refusal<C>>
     unless(size <= lent, Refusal::ShortMemory { needed: size })
 }
 
+// In order, with the index, so that the first unfit place is named.
 fn check_fit<C: Cost>(samples: &[C::Sample]) -> Result<(), Refusal<C>>
     ensures { result ≡ passed (all_fit C.Cost 0 samples.now) }
 {

@@ -1,7 +1,6 @@
 // The tables that a mask is made of, and what is asked of their rows, columns and entries.
-ghost use Rattle.std.specs.Prelude.{◌≡◌, ◌*◌, ◌^◌, ◌<◌, true, ◌&&◌, length, nat_le, ◌+◌};
-ghost use Rattle.std.specs.List.{list_all};
-ghost use Rattle.puncture.specs.Masks.{lent, lent_end, lent_masks, width, end_width, covered, is_bit, sound_row, sound_period, sound_end, sound_tables, sound};
+ghost use Rattle.std.specs.Prelude.{◌≡◌, ◌*◌, ◌^◌, ◌<◌, true, ◌&&◌, nat_le, ◌+◌};
+ghost use Rattle.puncture.specs.Masks.{lent, lent_end, lent_masks, width, end_width, covered, sound_row, sound_period, sound_end, sound_tables, sound};
 
 // By rows, of bytes 0 and 1.
 pub type Table<'a> = &'a [&'a [u8]];

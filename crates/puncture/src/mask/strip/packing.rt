@@ -25,6 +25,7 @@ impl Strip {
         ensures { held result ≡ flat (lent table.entry) }
     {
         let mut strip = Strip::empty();
+        // Columns are counted, since a table lies by rows.
         for c in 0..width(table) {
             strip = strip.with_column(table, c);
         }
