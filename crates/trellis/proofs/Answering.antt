@@ -1,5 +1,5 @@
 -- What the forward pass and the traceback leave is the rule's answer.
-use Rattle.std.proofs.Common.{◌≡◌, ℕ, zero, suc, ◌*◌, ◌^◌, ◌≤◌, Bool, true, false, ◌&&◌, leb, List, ◌∷◌, ◌++◌, map, reverse, length, take, replicate, Some, Option, refl, ap, ◌∙◌, mul-le-mul_left, mul-one, arith, pow_pos}
+use Rattle.std.proofs.Common.{◌≡◌, ℕ, zero, suc, ◌*◌, ◌^◌, ◌≤◌, Bool, true, false, leb, List, ◌∷◌, ◌++◌, map, reverse, length, take, replicate, Some, Option, refl, ap, ◌∙◌, mul-le-mul_left, mul-one, arith, pow_pos}
 use Rattle.std.proofs.lemmas.List.{length-reverse, nil_from_length, take-append-le}
 use Rattle.std.proofs.lemmas.Bool.{and_parts, leb-true}
 use Rattle.cost.specs.declared.kind.Cost.{Ghosts}
@@ -24,10 +24,7 @@ bits_none (suc n) = ap (λ r. false ∷ r) (bits_none n)
 -- where there is room to run, the path record has a row for every step
 pub room_paths : (code : Code) (steps cells paths : ℕ) → has_room code steps cells paths ≡ true → steps * 2 ^ code.memory ≤ paths
 room_paths code steps cells paths e =
-    let range = leb code.memory steps && leb steps 2048 in
-    let room = leb (2 * 2 ^ code.memory) cells && leb (steps * 2 ^ code.memory) paths in
-    let later = (and_parts range room e).1 in
-    leb-true (steps * 2 ^ code.memory) paths (and_parts (leb (2 * 2 ^ code.memory) cells) (leb (steps * 2 ^ code.memory) paths) later).1
+    leb-true (steps * 2 ^ code.memory) paths (and_parts (leb (2 * 2 ^ code.memory) cells) (leb (steps * 2 ^ code.memory) paths) e).1
 
 -- each row has at least one place
 pub steps_within : (memory steps : ℕ) → steps ≤ steps * 2 ^ memory

@@ -7,15 +7,17 @@ use Rattle.trellis.specs.Paths.{cost_of}
 use Rattle.trellis.specs.Rule.{answer}
 use Rattle.trellis.specs.declared.code.Code.{Code}
 
--- at least as many steps as closing zeros and not too many, and memory enough
+-- at least as many steps as closing zeros, and not too many
+abbrev pub in_range : Code → ℕ → Bool
+in_range code steps = nat_le code.memory steps && nat_le steps 2048
+
+-- memory enough
 abbrev pub has_room : Code → ℕ → ℕ → ℕ → Bool
-has_room code steps cells paths =
-    (nat_le code.memory steps && nat_le steps 2048)
-    && (nat_le (2 * 2 ^ code.memory) cells && nat_le (steps * 2 ^ code.memory) paths)
+has_room code steps cells paths = nat_le (2 * 2 ^ code.memory) cells && nat_le (steps * 2 ^ code.memory) paths
 
 -- a sound code that has room to run
 abbrev pub ready : Code → ℕ → ℕ → ℕ → Bool
-ready code steps cells paths = sound code && has_room code steps cells paths
+ready code steps cells paths = sound code && (in_range code steps && has_room code steps cells paths)
 
 -- the rule's answer, than which no run of its length costs less, its own cost, and its bits, the first first, at the front of the path record
 pub record Answered {C S P : Type 0} (k : Ghosts C S P) (rows : List ℕ) (met : ℕ → List (S × Bool)) (memory steps : ℕ) (cost : Option C) (paths : List ℕ) : Type 0 where

@@ -9,35 +9,28 @@ use crate::received::Received;
 use crate::windows::Trellis;
 use cost::kind::Cost;
 
-const MOST_STEPS: usize = 2048;
-
 impl Trellis {
-    // Whether so many steps can run in so much memory.
-    fn has_room(&self, steps: usize, cells: usize, paths: usize) -> bool
-        ensures { result ≡ has_room self.now.code steps cells paths }
+    // Whether the steps can run in so much memory.
+    fn has_room(&self, cells: usize, paths: usize) -> bool
+        ensures { result ≡ has_room self.now.code self.now.steps cells paths }
     {
-        if steps < self.code.memory || steps > MOST_STEPS {
-            return false;
-        }
         let registers = self.registers();
-        2 * registers <= cells && steps * registers <= paths
+        2 * registers <= cells && self.steps * registers <= paths
     }
 
     // Forward through all the steps, and back along the path that the empty register kept.
     fn answer<C: Cost, H: Received<Sample = C::Sample>>(
         &self,
-        steps: usize,
         heard: &H,
         cells: &mut [Option<C::Plain>],
         paths: &mut [u8],
     ) -> Option<C>
-        requires steps { (self.now.code.memory ≤ steps) × (steps ≤ 2048) }
         requires cells { length cells.old ≡ 2 * 2 ^ self.now.code.memory }
-        requires paths { length paths.old ≡ steps * 2 ^ self.now.code.memory }
-        ensures { Answered C.Cost (rows_of self.now.code) (read C.Cost (H.Received.met heard.now)) self.now.code.memory steps result paths.new }
+        requires paths { length paths.old ≡ self.now.steps * 2 ^ self.now.code.memory }
+        ensures { Answered C.Cost (rows_of self.now.code) (read C.Cost (H.Received.met heard.now)) self.now.code.memory self.now.steps result paths.new }
     {
-        let cost = self.forward::<C, H>(steps, heard, cells, paths);
-        self.traceback(steps, paths);
+        let cost = self.forward::<C, H>(heard, cells, paths);
+        self.traceback(paths);
         cost
     }
 }
@@ -53,12 +46,12 @@ pub fn decide<C: Cost, H: Received<Sample = C::Sample>>(
     ensures decided { ready code.now steps (length cells.old) (length paths.old) ≡ true → Answered C.Cost (rows_of code.now) (read C.Cost (H.Received.met heard.now)) code.now.memory steps result paths.new }
     ensures refused { ready code.now steps (length cells.old) (length paths.old) ≡ false → (result ≡ None) × (cells.new ≡ cells.old) × (paths.new ≡ paths.old) }
 {
-    let trellis = Trellis::new(code)?;
-    if !trellis.has_room(steps, cells.len(), paths.len()) {
+    let trellis = Trellis::new(code, steps)?;
+    if !trellis.has_room(cells.len(), paths.len()) {
         return None;
     }
     let registers = trellis.registers();
     let rows = &mut cells[..2 * registers];
     let record = &mut paths[..steps * registers];
-    trellis.answer::<C, H>(steps, heard, rows, record)
+    trellis.answer::<C, H>(heard, rows, record)
 }

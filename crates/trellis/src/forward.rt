@@ -198,21 +198,19 @@ impl Trellis {
     // All the steps of a block. The two rows of cells are the halves of the lent memory, and change roles with each step.
     pub(crate) fn forward<C: Cost, H: Received<Sample = C::Sample>>(
         &self,
-        steps: usize,
         heard: &H,
         cells: &mut [Option<C::Plain>],
         paths: &mut [u8],
     ) -> Option<C>
-        requires few { steps ≤ 2048 }
         requires cells { length cells.old ≡ 2 * 2 ^ self.now.code.memory }
-        requires paths { length paths.old ≡ steps * 2 ^ self.now.code.memory }
-        ensures marks { MarkedBelow self.now.code.memory (kept_at C.Cost (rows_of self.now.code) (read C.Cost (H.Received.met heard.now)) self.now.code.memory) paths.new steps }
-        ensures value { result ≡ cost_kept C.Cost (rows_of self.now.code) (read C.Cost (H.Received.met heard.now)) (kept_at C.Cost (rows_of self.now.code) (read C.Cost (H.Received.met heard.now)) self.now.code.memory steps 0) }
+        requires paths { length paths.old ≡ self.now.steps * 2 ^ self.now.code.memory }
+        ensures marks { MarkedBelow self.now.code.memory (kept_at C.Cost (rows_of self.now.code) (read C.Cost (H.Received.met heard.now)) self.now.code.memory) paths.new self.now.steps }
+        ensures value { result ≡ cost_kept C.Cost (rows_of self.now.code) (read C.Cost (H.Received.met heard.now)) (kept_at C.Cost (rows_of self.now.code) (read C.Cost (H.Received.met heard.now)) self.now.code.memory self.now.steps 0) }
     {
         let registers = self.registers();
         let (mut old, mut new) = cells.split_at_mut(registers);
         start::<C>(old);
-        for t in 0..steps {
+        for t in 0..self.steps {
             // By range, since of `chunks_exact_mut` a proof keeps the lengths alone.
             let marks = &mut paths[t * registers..(t + 1) * registers];
             self.step::<C, H>(t, heard, old, new, marks);

@@ -7,25 +7,23 @@ use crate::windows::Trellis;
 
 impl Trellis {
     // Leaves the bits of the path that the empty register kept, the first first, at the front of the record.
-    pub(crate) fn traceback(&self, steps: usize, paths: &mut [u8])
-        requires steps { steps ≤ 2048 }
-        requires whole { length paths.old ≡ steps * 2 ^ self.now.code.memory }
-        ensures { (kept : ℕ → ℕ → Option (List Bool)) (path : List Bool) → Recorded self.now.code.memory steps kept path paths.old → take steps paths.new ≡ map bit_of (reverse path) }
+    pub(crate) fn traceback(&self, paths: &mut [u8])
+        requires whole { length paths.old ≡ self.now.steps * 2 ^ self.now.code.memory }
+        ensures { (kept : ℕ → ℕ → Option (List Bool)) (path : List Bool) → Recorded self.now.code.memory self.now.steps kept path paths.old → take self.now.steps paths.new ≡ map bit_of (reverse path) }
     {
-        self.trace(steps, paths);
-        self.gather(steps, paths);
+        self.trace(paths);
+        self.gather(paths);
     }
 
     // Goes back a step at a time and writes the bit that entered at the head of the step's row.
     // By step number, since it reads and writes one slice.
-    fn trace(&self, steps: usize, paths: &mut [u8])
-        requires steps { steps ≤ 2048 }
-        requires whole { length paths.old ≡ steps * 2 ^ self.now.code.memory }
-        ensures { (kept : ℕ → ℕ → Option (List Bool)) (path : List Bool) → Recorded self.now.code.memory steps kept path paths.old → (length path ≡ steps) × Headed self.now.code.memory steps path paths.new }
+    fn trace(&self, paths: &mut [u8])
+        requires whole { length paths.old ≡ self.now.steps * 2 ^ self.now.code.memory }
+        ensures { (kept : ℕ → ℕ → Option (List Bool)) (path : List Bool) → Recorded self.now.code.memory self.now.steps kept path paths.old → (length path ≡ self.now.steps) × Headed self.now.code.memory self.now.steps path paths.new }
     {
         let memory = self.code.memory;
         let mut register = 0;
-        for t in (0..steps).rev() {
+        for t in (0..self.steps).rev() {
             let row = t << memory;
             let mark = paths[row + register] & 1;
             paths[row] = (register & 1) as u8;
@@ -34,13 +32,12 @@ impl Trellis {
     }
 
     // Moves the head of each row to its place at the front. By index for the same reason.
-    fn gather(&self, steps: usize, paths: &mut [u8])
-        requires steps { steps ≤ 2048 }
-        requires whole { length paths.old ≡ steps * 2 ^ self.now.code.memory }
-        ensures { (i : ℕ) → i < steps → slice_index paths.new i ≡ slice_index paths.old (i * 2 ^ self.now.code.memory) }
+    fn gather(&self, paths: &mut [u8])
+        requires whole { length paths.old ≡ self.now.steps * 2 ^ self.now.code.memory }
+        ensures { (i : ℕ) → i < self.now.steps → slice_index paths.new i ≡ slice_index paths.old (i * 2 ^ self.now.code.memory) }
     {
         let memory = self.code.memory;
-        for i in 0..steps {
+        for i in 0..self.steps {
             paths[i] = paths[i << memory];
         }
     }

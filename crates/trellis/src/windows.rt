@@ -1,17 +1,23 @@
 // The trellis of a sound code. A window is a register with the newest bit, window = 2 * register + bit.
-ghost use Rattle.std.specs.Prelude.{◌≡◌, ℕ, ◌^◌, ◌<◌, true, false, MatchOption, slice_index_or};
+ghost use Rattle.std.specs.Prelude.{◌≡◌, ℕ, ◌^◌, ◌<◌, ◌≤◌, true, false, ◌&&◌, MatchOption, slice_index_or};
 ghost use Rattle.trellis.specs.Bits.{bits};
 ghost use Rattle.trellis.specs.Codes.{summed, rows_of, sound};
+ghost use Rattle.trellis.specs.Decoding.{in_range};
 ghost use Rattle.trellis.specs.Windows.{Coded};
 
 use crate::code::Code;
 
-// A sound code, and the coded bit that each of its rows sends at each window.
+const MOST_STEPS: usize = 2048;
+
+// A sound code, the steps that it runs, and the coded bit that each of its rows sends at each window.
 #[derive(Drop)]
 pub(crate) struct Trellis {
     pub(crate) code: Code,
+    pub(crate) steps: usize,
     pub(crate) table: [[bool; 32]; 5],
     ghost checked: { sound code ≡ true },
+    ghost closed: { code.memory ≤ steps },
+    ghost few: { steps ≤ 2048 },
     ghost coded: { Coded (rows_of code) table },
 }
 
@@ -45,14 +51,16 @@ fn coded_bits(code: &Code) -> [[bool; 32]; 5]
 }
 
 impl Trellis {
-    pub(crate) fn new(code: &Code) -> Option<Trellis>
-        ensures { MatchOption result (sound code.now ≡ false) (λ t. (sound code.now ≡ true) × (t.code ≡ code.now)) }
+    // Nothing where the code is unsound, or the steps are fewer than its closing zeros or too many.
+    pub(crate) fn new(code: &Code, steps: usize) -> Option<Trellis>
+        ensures { MatchOption result ((sound code.now && in_range code.now steps) ≡ false) (λ t. (sound code.now ≡ true) × ((in_range code.now steps ≡ true) × ((t.code ≡ code.now) × (t.steps ≡ steps)))) }
     {
-        if !code.is_sound() {
+        if !code.is_sound() || steps < code.memory || steps > MOST_STEPS {
             return None;
         }
         Some(Trellis {
             code: *code,
+            steps,
             table: coded_bits(code),
         })
     }

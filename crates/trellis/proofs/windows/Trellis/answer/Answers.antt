@@ -9,5 +9,5 @@ returns g c =
     let laws = laws_of g.met.C.Cost in
     let met = g.H.Received.met c.args.heard.now in
     let trellis = c.args.self.now in
-    answers laws trellis.code (read g.C.Cost met) (read_fit laws met) trellis.checked c.args.steps c.requires.steps.0
+    answers laws trellis.code (read g.C.Cost met) (read_fit laws met) trellis.checked trellis.steps trellis.closed
     c.forward-cost.result c.forward-cost.new.paths c.traceback.new.paths c.forward-cost.ensures.value c.forward-cost.ensures.marks c.traceback.ensures

@@ -35,7 +35,7 @@ loop-t-preserved g c =
     let t = c.loop-t.t in
     let registers = c.registers-registers.result in
     let place : t * registers ≡ t * 2 ^ m = ap (λ r. t * r) c.registers-registers.ensures in
-    let fits = row_fits m c.args.steps t (omega arith) in
+    let fits = row_fits m c.args.self.now.steps t (omega arith) in
     let next : (t + 1) * registers ≡ t * registers + registers = search rules in
     let row = c.step.new.new in
     let same : c.swap.new.x.now ≡ row =
@@ -54,9 +54,9 @@ returns-clause-value g c =
     let code = c.args.self.now.code in
     let rows = rows_of code in
     let met = read k (g.H.Received.met c.args.heard.now) in
-    let end : c.loop-t.t ≡ c.args.steps = omega arith in
+    let end : c.loop-t.t ≡ c.args.self.now.steps = omega arith in
     let some = pow_pos code.memory in
     let taken : c.map.result ≡ lifted k c.index-old-0.result = search rules in
     let cell = get_or_read c.loop-t.old.now 0 c.index-old-0.result (omega arith) c.index-old-0.is None in
     let cells = subst (λ n. Cells k rows met code.memory n c.loop-t.old.now) end c.loop-t.invariant.2 in
-    taken ∙ ap (lifted k) (cell ∙ cells 0 some) ∙ lifted_kept k rows met g.met.C.Cost.laid (kept_at k rows met code.memory c.args.steps 0)
+    taken ∙ ap (lifted k) (cell ∙ cells 0 some) ∙ lifted_kept k rows met g.met.C.Cost.laid (kept_at k rows met code.memory c.args.self.now.steps 0)

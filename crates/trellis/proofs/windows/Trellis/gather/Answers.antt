@@ -7,13 +7,13 @@ pub bounds-paths-i : goal.bounds-paths-i
 bounds-paths-i c =
     let i = c.loop-i.i in
     let m = c.args.self.now.code.memory in
-    omega (arith, row_exact i m (omega arith) (sound_parts c.args.self.now.code c.args.self.now.checked).memory_few, row_within m c.args.steps i 0 c.loop-i-test.true (pow_pos m))
+    omega (arith, row_exact i m (omega arith) (sound_parts c.args.self.now.code c.args.self.now.checked).memory_few, row_within m c.args.self.now.steps i 0 c.loop-i-test.true (pow_pos m))
 
 pub bounds-paths-i-in-loop-i : goal.bounds-paths-i-in-loop-i
 bounds-paths-i-in-loop-i c =
     let i = c.loop-i.i in
     let m = c.args.self.now.code.memory in
-    omega (arith, row_within m c.args.steps i 0 c.loop-i-test.true (pow_pos m), row_after i m)
+    omega (arith, row_within m c.args.self.now.steps i 0 c.loop-i-test.true (pow_pos m), row_after i m)
 
 pub loop-i-preserved : goal.loop-i-preserved
 loop-i-preserved c =

@@ -11,13 +11,13 @@ pub bounds-paths-row : goal.bounds-paths-row
 bounds-paths-row c =
     let m = c.args.self.now.code.memory in
     let t = c.loop-t.t - 1 in
-    omega (arith, row_exact t m (omega arith) (sound_parts c.args.self.now.code c.args.self.now.checked).memory_few, row_within m c.args.steps t c.loop-t.register (omega arith) c.loop-t.invariant.0)
+    omega (arith, row_exact t m (omega arith) (sound_parts c.args.self.now.code c.args.self.now.checked).memory_few, row_within m c.args.self.now.steps t c.loop-t.register (omega arith) c.loop-t.invariant.0)
 
 pub bounds-paths-row-in-loop-t : goal.bounds-paths-row-in-loop-t
 bounds-paths-row-in-loop-t c =
     let m = c.args.self.now.code.memory in
     let t = c.loop-t.t - 1 in
-    omega (arith, row_exact t m (omega arith) (sound_parts c.args.self.now.code c.args.self.now.checked).memory_few, row_within m c.args.steps t 0 (omega arith) (pow_pos m))
+    omega (arith, row_exact t m (omega arith) (sound_parts c.args.self.now.code c.args.self.now.checked).memory_few, row_within m c.args.self.now.steps t 0 (omega arith) (pow_pos m))
 
 pub loop-t-preserved : goal.loop-t-preserved
 loop-t-preserved c =
@@ -40,15 +40,15 @@ loop-t-preserved c =
           let earlier : k < c.loop-t.t * 2 ^ m = omega (arith, row_within m c.loop-t.t t 0 (omega arith) (pow_pos m)) in
           ap (λ l. get_or l k 0) written ∙ get_or-set_other xs (t * 2 ^ m) k (bit_of (odd r)) 0 ne ∙ c.loop-t.invariant.1 k earlier),
       (λ kept path recorded.
-          let came = subst (λ n. Back m c.args.steps kept path xs n r) on (c.loop-t.invariant.2 kept path recorded) in
+          let came = subst (λ n. Back m c.args.self.now.steps kept path xs n r) on (c.loop-t.invariant.2 kept path recorded) in
           let inside : t * 2 ^ m < length xs = omega (arith, bounds-paths-row-in-loop-t c) in
-          let more = back_more m c.args.steps kept path before recorded xs t r (omega arith) c.loop-t.invariant.0 inside came in
-          subst (λ n. Back m c.args.steps kept path (set xs ((t * 2 ^ m) % 2 ^ 64) (bit_and r 1)) t n) (sym back)
-          (subst (λ l. Back m c.args.steps kept path l t (r / 2 + mark % 2 * 2 ^ (m - 1))) (sym written) more)),
+          let more = back_more m c.args.self.now.steps kept path before recorded xs t r (omega arith) c.loop-t.invariant.0 inside came in
+          subst (λ n. Back m c.args.self.now.steps kept path (set xs ((t * 2 ^ m) % 2 ^ 64) (bit_and r 1)) t n) (sym back)
+          (subst (λ l. Back m c.args.self.now.steps kept path l t (r / 2 + mark % 2 * 2 ^ (m - 1))) (sym written) more)),
     )
 
 pub returns : goal.returns
 returns c kept path recorded =
     let none : c.loop-t.t ≡ 0 = omega arith in
-    back_all c.args.self.now.code.memory c.args.steps kept path c.args.paths.now recorded c.loop-t.paths c.loop-t.register
-    (subst (λ n. Back c.args.self.now.code.memory c.args.steps kept path c.loop-t.paths n c.loop-t.register) none (c.loop-t.invariant.2 kept path recorded))
+    back_all c.args.self.now.code.memory c.args.self.now.steps kept path c.args.paths.now recorded c.loop-t.paths c.loop-t.register
+    (subst (λ n. Back c.args.self.now.code.memory c.args.self.now.steps kept path c.loop-t.paths n c.loop-t.register) none (c.loop-t.invariant.2 kept path recorded))

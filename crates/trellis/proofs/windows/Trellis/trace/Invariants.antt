@@ -7,5 +7,5 @@ abbrev pub invariant-loop-t : goal.invariant-loop-t
 invariant-loop-t l =
     (l.register < 2 ^ l.self.code.memory)
     × ((k : ℕ) → k < l.t * 2 ^ l.self.code.memory → get_or l.paths k 0 ≡ get_or l.initial.paths k 0)
-    × ((kept : ℕ → ℕ → Option (List Bool)) (path : List Bool) → Recorded l.self.code.memory l.steps kept path l.initial.paths →
-    Back l.self.code.memory l.steps kept path l.paths l.t l.register)
+    × ((kept : ℕ → ℕ → Option (List Bool)) (path : List Bool) → Recorded l.self.code.memory l.self.steps kept path l.initial.paths →
+    Back l.self.code.memory l.self.steps kept path l.paths l.t l.register)

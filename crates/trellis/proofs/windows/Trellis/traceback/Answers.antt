@@ -7,7 +7,7 @@ use Rattle.trellis.proofs.windows.Trellis.traceback.Goals as goal
 
 pub returns : goal.returns
 returns c kept path recorded =
-    let steps = c.args.steps in
+    let steps = c.args.self.now.steps in
     let m = c.args.self.now.code.memory in
     let traced = c.trace.ensures kept path recorded in
     let xs = c.gather.new.paths in
