@@ -1,5 +1,5 @@
 // The decoder: the path that the trellis rule answers, and its cost.
-ghost use Rattle.std.specs.Prelude.{◌≡◌, ◌*◌, ◌^◌, ◌≤◌, true, false, length, None};
+ghost use Rattle.std.specs.Prelude.{◌≡◌, ◌*◌, ◌^◌, true, false, length, None};
 ghost use Rattle.trellis.specs.Codes.{rows_of};
 ghost use Rattle.trellis.specs.Decoding.{Answered, has_room, ready};
 ghost use Rattle.trellis.specs.Met.{read};
@@ -52,6 +52,6 @@ pub fn decide<C: Cost, H: Received<Sample = C::Sample>>(
     }
     let registers = trellis.registers();
     let rows = &mut cells[..2 * registers];
-    let record = &mut paths[..steps * registers];
+    let record = &mut paths[..trellis.steps * registers];
     trellis.answer::<C, H>(heard, rows, record)
 }

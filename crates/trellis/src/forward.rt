@@ -160,7 +160,7 @@ impl Trellis {
         heard: &H,
         costs: &mut [C],
     )
-        requires few { (t < 2048) × (length costs.old ≤ 32) }
+        requires few { (t < self.now.steps) × (length costs.old ≤ 32) }
         ensures { Grown C.Cost (rows_of self.now.code) (read C.Cost (H.Received.met heard.now)) t costs.old costs.new }
     {
         let rows = self.code.rows;
@@ -182,7 +182,7 @@ impl Trellis {
         new: &mut [Option<C::Plain>],
         marks: &mut [u8],
     )
-        requires few { t < 2048 }
+        requires within { t < self.now.steps }
         requires room { (length old.now ≡ 2 ^ self.now.code.memory) × ((length new.old ≡ 2 ^ self.now.code.memory) × (length marks.old ≡ 2 ^ self.now.code.memory)) }
         requires cells { Cells C.Cost (rows_of self.now.code) (read C.Cost (H.Received.met heard.now)) self.now.code.memory t old.now }
         ensures cells { Cells C.Cost (rows_of self.now.code) (read C.Cost (H.Received.met heard.now)) self.now.code.memory (suc t) new.new }

@@ -53,7 +53,7 @@ fn coded_bits(code: &Code) -> [[bool; 32]; 5]
 impl Trellis {
     // Nothing where the code is unsound, or the steps are fewer than its closing zeros or too many.
     pub(crate) fn new(code: &Code, steps: usize) -> Option<Trellis>
-        ensures { MatchOption result ((sound code.now && in_range code.now steps) ≡ false) (λ t. (sound code.now ≡ true) × ((in_range code.now steps ≡ true) × ((t.code ≡ code.now) × (t.steps ≡ steps)))) }
+        ensures { MatchOption result ((sound code.now && in_range code.now steps) ≡ false) (λ t. (t.code ≡ code.now) × (t.steps ≡ steps)) }
     {
         if !code.is_sound() || steps < code.memory || steps > MOST_STEPS {
             return None;
