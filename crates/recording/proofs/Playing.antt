@@ -36,16 +36,6 @@ module _ (known : Openings) (bytes : List ℕ) where
     pub waits : (s : Said) → Next known opened (drop at bytes) s → may_stand false s ≡ true
     pub gives : (made : List ℕ) → Rest opened at made → Played known bytes (so_far ++ made)
 
-  -- before the first record
-  pub playing_begun : Playing 0 []
-  playing_begun =
-      record {
-        opened = false;
-        within = omega arith;
-        waits = λ s n. n.stands;
-        gives = λ made left. record { records = left.records; fault = left.fault; lines = left.lines; spelt = left.spelt; told = left.told; shown = left.shown };
-      }
-
   -- where nothing is left, the text so far is the whole
   pub playing_done : (at : ℕ) (so_far : List ℕ) → Playing at so_far → length bytes ≤ at → Played known bytes so_far
   playing_done at so_far p h =
@@ -111,13 +101,6 @@ module _ (known : Openings) (bytes : List ℕ) where
   pub record Playing_by (p : Player) : Type 0 where
     pub plays : Plays known bytes p
     pub playing : Playing p.at (string_bytes p.lines)
-
-  pub begun_by : (p : Player) → Begun known bytes p → Playing_by p
-  begun_by p b =
-      record {
-        plays = b.plays;
-        playing = subst (λ n. Playing n (string_bytes p.lines)) (sym b.at) (subst (λ t. Playing 0 t) (sym b.lines) playing_begun);
-      }
 
   -- an opening and the calls after it are played
   pub after_by : (p q r : Player) (channel : Channel) (kind : Kind) → Playing_by p → Read channel kind p q → PlaysCalls (weighing kind) channel q r → Playing_by r

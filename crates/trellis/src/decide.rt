@@ -36,6 +36,7 @@ impl Trellis {
 }
 
 // The cost of the answer on what was heard, its bits left at the front of the path record; nothing where the decoder cannot run.
+// What was heard and the memory are of one block and of no type here: each is handed by itself.
 pub fn decide<C: Cost, H: Received<Sample = C::Sample>>(
     code: &Code,
     steps: usize,

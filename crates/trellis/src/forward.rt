@@ -118,7 +118,8 @@ fn lay_down<C: Cost>(costs: &[C], new: &mut [Option<C::Plain>])
     }
 }
 
-// Each register keeps the lower of its two windows; where every register was reached, none has to be asked.
+// Each register keeps the lower of its two windows; where every register was reached, none has to be asked. Asked once a step, by a
+// flag of all cells: the loop without tests is what makes the pass fast.
 fn meet<C: Cost>(
     whole: bool,
     old: &[Option<C::Plain>],

@@ -55,7 +55,7 @@ impl Trellis {
     pub(crate) fn new(code: &Code, steps: usize) -> Option<Trellis>
         ensures { MatchOption result ((sound code.now && in_range code.now steps) ≡ false) (λ t. (t.code ≡ code.now) × (t.steps ≡ steps)) }
     {
-        if !code.is_sound() || steps < code.memory || steps > MOST_STEPS {
+        if !code.is_sound() || !(code.memory..=MOST_STEPS).contains(&steps) {
             return None;
         }
         Some(Trellis {

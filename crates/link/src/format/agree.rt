@@ -18,9 +18,7 @@ const MOST_BURST: usize = 1024;
 fn lengths_suit(message: usize, parity: usize, depth: usize) -> bool
     ensures { result ≡ lengths_suit message parity depth }
 {
-    (1..=MOST_MESSAGE).contains(&message)
-        && matches!(parity, 0 | 16)
-        && matches!(depth, 1 | 3)
+    (1..=MOST_MESSAGE).contains(&message) && matches!(parity, 0 | 16) && matches!(depth, 1 | 3)
 }
 
 fn line_suits<L: Line>(line: &L, coded: usize) -> bool

@@ -19,6 +19,7 @@ impl<L: Line> Format<L> {
         self.message + self.parity + self.code.memory
     }
 
+    // As the trellis has it of its own code: a public method of a code could not ask that the code is sound.
     pub(crate) fn registers(&self) -> usize
         ensures { result ≡ 2 ^ self.now.code.memory }
     {
