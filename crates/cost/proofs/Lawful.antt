@@ -18,7 +18,7 @@ pub record Laws {C S P : Type 0} (k : Ghosts C S P) : Type 0 where
   pub nothing_fit : k.fit k.NOTHING ≡ true
   pub laid : (a : C) → k.lift (k.lay a) ≡ a
 
--- the laws that come with a bound, from what an answer has of it
+-- the laws that come with a bound, from what an answer has of it, where an implementation has it in another form
 pub laws_of : {M : Type 1} {𝓤 : Ura M} {𝓛 : Logic 𝓤} {𝓜 : Model 𝓤 𝓛.H} {𝓡 : Running 𝓤 𝓛.H 𝓜} {γ : Env} {C S P : RattleType} {k : Ghosts C.Denot S.Denot P.Denot} {d : Dict}
     {cost : Clone.Ghosts C.Denot} {cost_dict : Dict} {sample : Clone.Ghosts S.Denot} {sample_dict : Dict} {plain : Clone.Ghosts P.Denot} {plain_dict : Dict} →
     Met 𝓛 𝓜 𝓡 γ C S P k d cost cost_dict sample sample_dict plain plain_dict → Laws k

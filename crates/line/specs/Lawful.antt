@@ -12,6 +12,6 @@ pub record Laws {L : Type 0} (l : Ghosts L) : Type 0 where
   pub filled : (a : L) (k : ℕ) → k < l.sent a → (j : ℕ) × (t : Bool) × (l.place a j ≡ Some (k, t))
   pub ended : (a : L) (j : ℕ) → l.coded a ≤ j → l.place a j ≡ None
 
--- the laws that come with a bound, from what an implementation has of it
+-- the laws that come with a bound, from what an implementation has of it, where an answer has it in another form
 pub laws_of : {L : RattleType} {l : Ghosts L.Denot} {d e : Dict} {c : clone.Ghosts L.Denot} → All L l d c e → Laws l
 laws_of m = record { within = m.within; apart = m.apart; filled = m.filled; ended = m.ended }

@@ -29,7 +29,7 @@ pub enum Record<'a> {
     Restart,
 }
 
-// A byte that names no kind.
+// A byte that names no kind; of a type of its own, as that of a channel.
 #[derive(Clone, Copy, Debug, PartialEq, Eq)]
 pub struct UnknownKind(pub u8);
 

@@ -1,4 +1,5 @@
-// The traceback: from the empty register after the last step, back along the marks of the path record.
+// The traceback: from the empty register after the last step, back along the marks of the path record. The record is lent, so each
+// function asks for its length: of a struct that holds it, with that as an invariant, the check makes no proof.
 ghost use Rattle.std.specs.Prelude.{◌≡◌, ℕ, ◌*◌, ◌^◌, ◌<◌, Bool, List, map, reverse, length, take, Option, slice_index};
 ghost use Rattle.trellis.specs.Bits.{bit_of};
 ghost use Rattle.trellis.specs.Tracing.{Recorded, Headed};

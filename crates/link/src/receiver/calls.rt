@@ -41,7 +41,7 @@ impl<C: Cost, L: Line> Receiver<C, L> {
         self.count(memory)
     }
 
-    // Counts a burst that never came.
+    // Counts a burst that never came. Beside hear, since the checks and what is stored differ, and the rest is `count`.
     pub fn miss(&mut self, memory: &mut Memory<C>) -> Result<Answer<C>, Refusal<C>>
         ensures called { Misses C.Cost L.Line self.old (lent memory.old) result self.new (lent memory.new) }
         ensures loans { SameLoans memory.old memory.new }
