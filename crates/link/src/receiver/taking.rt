@@ -22,7 +22,7 @@ impl<L: Line> Format<L> {
         ensures { (path : List Bool) → length path ≡ steps self.now → take (steps self.now) paths.now ≡ map bit_of (reverse path) → result ≡ right self.now path }
     {
         let protected = self.message + self.parity;
-        self.parity == 0 || remainder_of(&paths[..protected]) == 0
+        self.parity == 0 || remainder_of(&paths[0..protected]) == 0
     }
 
     // The message is the first of the bits at the front of the record.
