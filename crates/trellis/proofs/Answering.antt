@@ -1,14 +1,13 @@
 -- What the forward pass and the traceback leave is the rule's answer.
-use Rattle.std.proofs.Common.{◌≡◌, ℕ, zero, suc, ◌*◌, ◌^◌, ◌≤◌, Bool, true, false, leb, List, ◌∷◌, ◌++◌, map, reverse, length, take, replicate, Some, Option, refl, ap, ◌∙◌, mul-le-mul_left, mul-one, arith, pow_pos}
+use Rattle.std.proofs.Common.{◌≡◌, ℕ, zero, suc, ◌*◌, ◌^◌, ◌≤◌, Bool, true, false, List, ◌∷◌, ◌++◌, map, reverse, length, take, replicate, Some, Option, refl, ap, ◌∙◌, mul-le-mul_left, mul-one, arith, pow_pos}
 use Rattle.std.proofs.lemmas.List.{length-reverse, nil_from_length, take-append-le}
-use Rattle.std.proofs.lemmas.Bool.{and_parts, leb-true}
 use Rattle.cost.specs.declared.kind.Cost.{Ghosts}
 use Rattle.cost.proofs.Lawful.{Laws}
 use Rattle.trellis.specs.Bits.{bit_of, bits}
 use Rattle.trellis.specs.Cells.{MarkedBelow, cost_kept, kept_at}
 use Rattle.trellis.specs.Codes.{rows_of, sound}
 use Rattle.trellis.specs.declared.code.Code.{Code}
-use Rattle.trellis.specs.Decoding.{Answered, has_room}
+use Rattle.trellis.specs.Decoding.{Answered}
 use Rattle.trellis.specs.Met.{Fit}
 use Rattle.trellis.specs.Rule.{survivor}
 use Rattle.trellis.specs.Tracing.{Recorded}
@@ -20,11 +19,6 @@ use Rattle.trellis.proofs.Survivors.{survivor_length}
 bits_none : (n : ℕ) → bits n 0 ≡ replicate n false
 bits_none zero = refl
 bits_none (suc n) = ap (λ r. false ∷ r) (bits_none n)
-
--- where there is room to run, the path record has a row for every step
-pub room_paths : (code : Code) (steps cells paths : ℕ) → has_room code steps cells paths ≡ true → steps * 2 ^ code.memory ≤ paths
-room_paths code steps cells paths e =
-    leb-true (steps * 2 ^ code.memory) paths (and_parts (leb (2 * 2 ^ code.memory) cells) (leb (steps * 2 ^ code.memory) paths) e).1
 
 -- each row has at least one place
 pub steps_within : (memory steps : ℕ) → steps ≤ steps * 2 ^ memory

@@ -1,11 +1,11 @@
 use Rattle.std.proofs.Common.{◌≡◌, ◌*◌, ◌^◌, ◌≤◌, true, length, sym, ap, ◌∙◌, subst, ap₂, arith}
 use Rattle.std.proofs.lemmas.List.{length-take}
-use Rattle.std.proofs.lemmas.Bool.{both_ways, le-leb}
+use Rattle.std.proofs.lemmas.Bool.{and_parts, both_ways, le-leb, leb-true}
 use Rattle.std.specs.Cmp.Derive.{both_true}
 use Rattle.trellis.specs.Codes.{rows_of}
 use Rattle.trellis.specs.Decoding.{Answered, has_room, ready}
 use Rattle.trellis.specs.Met.{read}
-use Rattle.trellis.proofs.Answering.{answered_longer, room_paths, steps_within}
+use Rattle.trellis.proofs.Answering.{answered_longer, steps_within}
 use Rattle.trellis.proofs.decide.decide.Goals as goal
 
 pub returns : goal.returns
@@ -25,7 +25,7 @@ returns g c =
     let given : ready c.args.code.now c.args.steps cells (length paths) ≡ true = ap₂ (λ a n. ready a n cells (length paths)) (sym own) (sym run) ∙ can in
     let part : steps * c.registers-registers.result ≡ steps * 2 ^ m = ap (λ n. steps * n) c.registers-registers.ensures in
     let long : c.args.steps ≤ length c.answer.new.paths =
-    omega (arith, run, c.answer.auto.paths, length-take (steps * c.registers-registers.result) paths, part, room_paths code steps cells (length paths) room, steps_within m steps) in
+    omega (arith, run, c.answer.auto.paths, length-take (steps * c.registers-registers.result) paths, part, leb-true (steps * 2 ^ m) (length paths) (and_parts _ _ room).1, steps_within m steps) in
     let ran = subst (λ n. Answered k (rows_of code) met m n c.answer.result c.answer.new.paths) run c.answer.ensures in
     let answered = subst (λ a. Answered k (rows_of a) met a.memory c.args.steps c.answer.result c.answer.new.paths) own ran in
     record {
