@@ -1,149 +1,91 @@
 // Recordings, and the lines that playing them makes.
-use crate::played::{long_burst, prints};
-use records::record::Openings;
+use crate::played::prints;
+use std::alloc::{AllocError, Global};
+use std::process::Abort;
 use std::test::*;
 
-#[test]
-fn no_bytes_no_lines(rt: HostRuntime) -> Result<(), Fail> {
-    prints(&rt, rt.alloc(), Openings::Bench, b"", "")
+mod blocks;
+mod faults;
+mod marks;
+mod refusals;
+
+// Recordings, each beside its lines.
+fn each_prints(rt: &impl Abort, alloc: Global, cases: &[(&[u8], &str)]) -> Result<(), Fail> {
+    for (bytes, lines) in cases {
+        prints(rt, alloc, bytes, lines)?;
+    }
+    Ok(())
 }
 
-#[test]
-fn a_burst_heard_missed_and_short(rt: HostRuntime) -> Result<(), Fail> {
-    let bytes =
-        b"OP\x00\x00HE\x00\x10\x01\x00\x00\x00\x01\x00\x00\x00\x01\x00\x01\x00\x00\x00\x00\x00MIHE\x00\x01\x02";
-    prints(
-        &rt,
-        rt.alloc(),
-        Openings::Bench,
-        bytes,
-        "O 0\nB 0 1 16 100000\nB 1 0 0 000000\nX 6 1\n",
-    )
+// A part of a recording: bytes as they stand, or a record that hears a burst, given as figures, by the clean samples of a kind.
+#[derive(Clone, Copy)]
+enum Part<'a> {
+    Bytes(&'a [u8]),
+    Count(&'a str),
+    Ranked(&'a str),
+    // With another sample at one place.
+    CountBut(&'a str, usize, u8),
+    RankedBut(&'a str, usize, u8),
 }
 
-#[test]
-fn only_an_opening_comes_first(rt: HostRuntime) -> Result<(), Fail> {
-    prints(
-        &rt,
-        rt.alloc(),
-        Openings::Bench,
-        b"MIOP\x00\x00",
-        "X 12 0\n",
-    )
+// The sample bytes of the bits 0 and 1 heard clean.
+const COUNT: [u8; 2] = [0, 1];
+
+const RANKED: [u8; 2] = [0x7F, 0x81];
+
+// What the parts and the texts together spell.
+fn plays(rt: &impl Abort, alloc: Global, parts: &[Part<'_>], texts: &[&str]) -> Result<(), Fail> {
+    let bytes = recorded(alloc, parts)?;
+    let lines = joined(alloc, texts)?;
+    prints(rt, alloc, &bytes, lines.as_str())
 }
 
-#[test]
-fn unknown_marks_channels_and_kinds(rt: HostRuntime) -> Result<(), Fail> {
-    prints(
-        &rt,
-        rt.alloc(),
-        Openings::Bench,
-        b"OP\x00\x00REMOMI",
-        "O 0\nR\nX 12 6\n",
-    )?;
-    prints(
-        &rt,
-        rt.alloc(),
-        Openings::Bench,
-        b"OP\x01\x00MI",
-        "X 12 0\n",
-    )?;
-    prints(
-        &rt,
-        rt.alloc(),
-        Openings::Bench,
-        b"OP\x00\x00OP\x00\x01",
-        "O 0\nX 12 4\n",
-    )
+fn recorded(heap: Global, parts: &[Part<'_>]) -> Result<Vec<u8>, AllocError> {
+    let mut bytes = Vec::new(heap);
+    for part in parts {
+        put(&mut bytes, *part)?;
+    }
+    Ok(bytes)
 }
 
-#[test]
-fn cut_records(rt: HostRuntime) -> Result<(), Fail> {
-    prints(&rt, rt.alloc(), Openings::Bench, b"OP\x00", "X 12 0\n")?;
-    prints(
-        &rt,
-        rt.alloc(),
-        Openings::Bench,
-        b"OP\x00\x00R",
-        "O 0\nX 12 4\n",
-    )?;
-    prints(
-        &rt,
-        rt.alloc(),
-        Openings::Bench,
-        b"OP\x00\x00HE\x00",
-        "O 0\nX 12 4\n",
-    )?;
-    prints(
-        &rt,
-        rt.alloc(),
-        Openings::Bench,
-        b"OP\x00\x00HE\x00\x02\x01",
-        "O 0\nX 12 4\n",
-    )
+fn joined(heap: Global, texts: &[&str]) -> Result<String, AllocError> {
+    let mut lines = String::new(heap);
+    for text in texts {
+        lines.push_str(text)?;
+    }
+    Ok(lines)
 }
 
-#[test]
-fn most_samples(rt: HostRuntime) -> Result<(), Fail> {
-    long_burst(
-        &rt,
-        rt.alloc(),
-        Openings::Bench,
-        b"OP\x00\x00HE\x04\x00",
-        1024,
-        "O 0\nX 6 1024\n",
-    )?;
-    long_burst(
-        &rt,
-        rt.alloc(),
-        Openings::Bench,
-        b"OP\x00\x00HE\x04\x01",
-        1025,
-        "O 0\nX 12 4\n",
-    )
+fn put(bytes: &mut Vec<u8>, part: Part<'_>) -> Result<(), AllocError> {
+    match part {
+        Part::Bytes(more) => bytes.extend_from_slice(more),
+        Part::Count(burst) => put_burst(bytes, COUNT, burst, None),
+        Part::Ranked(burst) => put_burst(bytes, RANKED, burst, None),
+        Part::CountBut(burst, k, sample) => put_burst(bytes, COUNT, burst, Some((k, sample))),
+        Part::RankedBut(burst, k, sample) => put_burst(bytes, RANKED, burst, Some((k, sample))),
+    }
 }
 
-#[test]
-fn opening_and_restarting_count_anew(rt: HostRuntime) -> Result<(), Fail> {
-    prints(
-        &rt,
-        rt.alloc(),
-        Openings::Bench,
-        b"OP\x00\x00MIMIOP\x00\x00MI",
-        "O 0\nB 0 0 0 000000\nB 1 0 0 000000\nO 0\nB 0 0 0 000000\n",
-    )?;
-    prints(
-        &rt,
-        rt.alloc(),
-        Openings::Bench,
-        b"OP\x00\x00MIREMI",
-        "O 0\nB 0 0 0 000000\nR\nB 0 0 0 000000\n",
-    )
+fn put_burst(
+    bytes: &mut Vec<u8>,
+    clean: [u8; 2],
+    burst: &str,
+    other: Option<(usize, u8)>,
+) -> Result<(), AllocError> {
+    let figures = burst.as_bytes();
+    bytes.extend_from_slice(b"HE")?;
+    let count = u16::try_from(figures.len()).unwrap_or(u16::MAX);
+    bytes.extend_from_slice(&count.to_be_bytes())?;
+    for (k, figure) in figures.iter().enumerate() {
+        bytes.push(sample_at(clean, *figure, k, other))?;
+    }
+    Ok(())
 }
 
-#[test]
-fn refused_calls_count_nothing(rt: HostRuntime) -> Result<(), Fail> {
-    prints(
-        &rt,
-        rt.alloc(),
-        Openings::Bench,
-        b"OP\x00\x00STMI",
-        "O 0\nX 8 0\nB 0 0 0 000000\n",
-    )?;
-    prints(
-        &rt,
-        rt.alloc(),
-        Openings::Bench,
-        b"OP\x00\x00HE\x00\x00MI",
-        "O 0\nX 6 0\nB 0 0 0 000000\n",
-    )?;
-    let unfit =
-        b"OP\x00\x00HE\x00\x10\x00\x00\x00\x00\x00\x03\x00\x00\x00\x00\x00\x00\x00\x00\x00\x00MI";
-    prints(
-        &rt,
-        rt.alloc(),
-        Openings::Bench,
-        unfit,
-        "O 0\nX 7 5\nB 0 0 0 000000\n",
-    )
+fn sample_at(clean: [u8; 2], figure: u8, k: usize, other: Option<(usize, u8)>) -> u8 {
+    match other {
+        Some((place, sample)) if place == k => sample,
+        _ if figure == b'1' => clean[1],
+        _ => clean[0],
+    }
 }

@@ -2,13 +2,12 @@
 #![tactic(auto)]
 
 use recording::play::play;
-use records::record::Openings;
 use std::io::Read;
 
 fn main(rt: HostRuntime) -> anyhow::Result<()> {
     let mut bytes = Vec::new(rt.alloc());
     rt.stdin().read_to_end(&mut bytes)?;
-    let lines = play(rt.alloc(), Openings::Bench, &bytes)?;
+    let lines = play(rt.alloc(), &bytes)?;
     rt.print(lines.as_str())?;
     Ok(())
 }

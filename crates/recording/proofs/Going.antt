@@ -13,19 +13,17 @@ use Rattle.link.specs.declared.format.Format.{Format}
 use Rattle.link.specs.declared.receiver.Receiver.{Receiver}
 use Rattle.recording.specs.Answers.{Enough, Goes, ends, hearing, missing, stealing, restarting}
 use Rattle.recording.specs.Kinds.{Weighing}
-use Rattle.recording.proofs.Playing.{of_bytes}
 use Rattle.recording.specs.Lines.{opened_line, answer_line, stolen_line, restarted_line, written}
 use Rattle.recording.specs.Playing.{rest, Same, Wrote, Follows, CallsAfter}
 use Rattle.recording.specs.declared.player.Player.{Player}
-use Rattle.records.specs.declared.record.Openings.{Openings}
 use Rattle.records.specs.Recordings.{may_stand, Spells, says}
 use Rattle.records.specs.Records.{Said, opens, hears, misses, steals, restarts, spelling, Begins}
 use Rattle.stations.specs.Stations.{memory}
 use Rattle.stations.specs.declared.station.Station.{Station}
 
 -- a record is no longer than the bytes that begin with it
-begins_within : (known : Openings) (bytes : List ℕ) (s : Said) → Begins known bytes s → length (spelling s) ≤ length bytes
-begins_within known bytes s b = omega (arith, length-take (length (spelling s)) bytes, ap length b.spelt)
+begins_within : (bytes : List ℕ) (s : Said) → Begins bytes s → length (spelling s) ≤ length bytes
+begins_within bytes s b = omega (arith, length-take (length (spelling s)) bytes, ap length b.spelt)
 
 -- memory of the sizes needed is enough
 needed_enough : {C S P L : Type 0} (f : Format L) → first (memory_rules {C = C} {S = S} {P = P} f (needed f)) ≡ None
@@ -37,7 +35,7 @@ needed_enough f =
       le-leb (needed f).block (needed f).block (omega arith),
     )
 
-module _ (w : Weighing) (known : Openings) (opened : Receiver w.C Laying w.S w.P) (bytes : List ℕ) (start : ℕ) (m₀ : Memory w.S w.P) where
+module _ (w : Weighing) (opened : Receiver w.C Laying w.S w.P) (bytes : List ℕ) (start : ℕ) (m₀ : Memory w.S w.P) where
   -- how far the calls have come: the history so far, and the text so far, which with what follows gives all of it
   pub record Going (r : Receiver w.C Laying w.S w.P) (m : Memory w.S w.P) (at : ℕ) (before text : List ℕ) : Type 0 where
     pub bursts : List (List w.S)
@@ -47,8 +45,8 @@ module _ (w : Weighing) (known : Openings) (opened : Receiver w.C Laying w.S w.P
     pub within : at ≤ length bytes
     pub so_far : List ℕ
     pub wrote : text ≡ before ++ so_far
-    pub gives : (stop : ℕ) (made : List ℕ) → Follows w known opened bytes r m bursts history at stop made →
-        Follows w known opened bytes opened m₀ [] (begun m₀.ring) start stop (so_far ++ made)
+    pub gives : (stop : ℕ) (made : List ℕ) → Follows w opened bytes r m bursts history at stop made →
+        Follows w opened bytes opened m₀ [] (begun m₀.ring) start stop (so_far ++ made)
 
   -- memory so large is enough
   enough : (m : Memory w.S w.P) → sizes m ≡ needed opened.format → Enough w opened m
@@ -58,7 +56,7 @@ module _ (w : Weighing) (known : Openings) (opened : Receiver w.C Laying w.S w.P
   -- a call goes on with them
   goes_on : (r r' : Receiver w.C Laying w.S w.P) (m m' : Memory w.S w.P) (at : ℕ) (before text text' : List ℕ) (s : Said) (line : List ℕ)
       (g : Going r m at before text) (bursts : List (List w.S)) (h : History w.kind laying_line opened r' m'.ring bursts) →
-      sizes m' ≡ sizes m → Begins known (drop at bytes) s → text' ≡ text ++ written line →
+      sizes m' ≡ sizes m → Begins (drop at bytes) s → text' ≡ text ++ written line →
       ((since : List Said) (lines : List (List ℕ)) → Goes w opened r' m' bursts h since lines → Goes w opened r m g.bursts g.history (s ∷ since) (line ∷ lines)) →
       Going r' m' (at + length (spelling s)) before text'
   goes_on r r' m m' at before text text' s line g bursts h same b wrote goes =
@@ -69,18 +67,18 @@ module _ (w : Weighing) (known : Openings) (opened : Receiver w.C Laying w.S w.P
         history = h;
         room = same ∙ g.room;
         forward = let f = g.forward in omega arith;
-        within = let i = g.within in omega (arith, begins_within known (drop at bytes) s b, length-drop at bytes);
+        within = let i = g.within in omega (arith, begins_within (drop at bytes) s b, length-drop at bytes);
         so_far = whole ++ written line;
         wrote = wrote ∙ ap (λ t. t ++ written line) g.wrote ∙ append_assoc before whole (written line);
         gives = λ stop made f.
-            subst (λ t. Follows w known opened bytes opened m₀ [] (begun m₀.ring) start stop t) (sym (append_assoc whole (written line) made))
+            subst (λ t. Follows w opened bytes opened m₀ [] (begun m₀.ring) start stop t) (sym (append_assoc whole (written line) made))
             (g.gives stop (written line ++ made) (record {
               since = s ∷ f.since;
               lines = line ∷ f.lines;
               goes = goes f.since f.lines f.goes;
               spelt = λ records fault left.
                   says true at (drop at bytes) s (f.since ++ records) fault (record { begins = b; stands = refl })
-                  (subst (λ t. Spells known true (at + n) t (f.since ++ records) fault) (sym (drop-drop n at bytes)) (f.spelt records fault left));
+                  (subst (λ t. Spells true (at + n) t (f.since ++ records) fault) (sym (drop-drop n at bytes)) (f.spelt records fault left));
               shown = ap (λ t. written line ++ t) f.shown;
             }));
       }
@@ -93,7 +91,7 @@ module _ (w : Weighing) (known : Openings) (opened : Receiver w.C Laying w.S w.P
 
   -- a record played as a call goes on with them
   pub going_after : AllSound w.kind laying_line opened → (s s' : Station w.C w.S w.P) (at : ℕ) (before text text' : List ℕ) (said : Said) →
-      Begins known (drop at bytes) said → Going s.receiver (memory s) at before text → Wrote w said s text s' text' →
+      Begins (drop at bytes) said → Going s.receiver (memory s) at before text → Wrote w said s text s' text' →
       Going s'.receiver (memory s') (at + length (spelling said)) before text'
   going_after sound s s' at before text text' (opens channel kind) b g a = absurd a.calls
   going_after sound s s' at before text text' (hears given) b g a =
@@ -146,16 +144,16 @@ module _ (w : Weighing) (known : Openings) (opened : Receiver w.C Laying w.S w.P
 
   -- where they stop, what has been played is all that follows the opening
   pub going_done : (r : Receiver w.C Laying w.S w.P) (m : Memory w.S w.P) (at : ℕ) (before text : List ℕ) (g : Going r m at before text) →
-      Follows w known opened bytes opened m₀ [] (begun m₀.ring) start at g.so_far
+      Follows w opened bytes opened m₀ [] (begun m₀.ring) start at g.so_far
   going_done r m at before text g =
-      subst (λ t. Follows w known opened bytes opened m₀ [] (begun m₀.ring) start at t) (append-nil g.so_far)
+      subst (λ t. Follows w opened bytes opened m₀ [] (begun m₀.ring) start at t) (append-nil g.so_far)
       (g.gives at [] (record { since = []; lines = []; goes = ends r m g.bursts g.history (enough m g.room); spelt = λ records fault left. left; shown = refl }))
 
 -- before the first call
-pub going_begun : (w : Weighing) (known : Openings) (bytes : List ℕ) (start : ℕ) (s : Station w.C w.S w.P) (before : List ℕ) →
+pub going_begun : (w : Weighing) (bytes : List ℕ) (start : ℕ) (s : Station w.C w.S w.P) (before : List ℕ) →
     sizes (memory s) ≡ needed s.receiver.format → start ≤ length bytes →
-    Going w known s.receiver bytes start (memory s) s.receiver (memory s) start before before
-going_begun w known bytes start s before room within =
+    Going w s.receiver bytes start (memory s) s.receiver (memory s) start before before
+going_begun w bytes start s before room within =
     record {
       bursts = [];
       history = begun (memory s).ring;
@@ -170,13 +168,13 @@ going_begun w known bytes start s before room within =
 -- how far a player has come with the calls that it began at `p`, with a station opened as `first`
 pub record Going_by (w : Weighing) (p : Player) (before : List ℕ) (first : Station w.C w.S w.P) (q : Player) (s : Station w.C w.S w.P) : Type 0 where
   pub same : Same p q
-  pub going : Going w p.known first.receiver p.bytes.now p.at (memory first) s.receiver (memory s) q.at before (string_bytes q.lines)
+  pub going : Going w first.receiver p.bytes.now p.at (memory first) s.receiver (memory s) q.at before (string_bytes q.lines)
 
 -- where they stop, all calls after the opening have been played
 pub calls_after : (w : Weighing) (p : Player) (channel : Channel) (first : Station w.C w.S w.P) (q : Player) (s : Station w.C w.S w.P) →
     Tuned w.kind channel first.receiver → Going_by w p (string_bytes p.lines ++ written (opened_line channel)) first q s →
-    (text : List ℕ) → text ≡ string_bytes q.lines → ((t : Said) → Begins q.known (rest q) t → may_stand false t ≡ true) →
-    CallsAfter w p.known channel p.bytes.now p.at (string_bytes p.lines ++ written (opened_line channel)) q.at text
+    (text : List ℕ) → text ≡ string_bytes q.lines → ((t : Said) → Begins (rest q) t → may_stand false t ≡ true) →
+    CallsAfter w channel p.bytes.now p.at (string_bytes p.lines ++ written (opened_line channel)) q.at text
 calls_after w p channel first q s tuned i text e stops =
     let before = string_bytes p.lines ++ written (opened_line channel) in
     let going = i.going in
@@ -185,9 +183,9 @@ calls_after w p channel first q s tuned i text e stops =
       memory = memory first;
       made = going.so_far;
       tuned = tuned;
-      follows = going_done w p.known first.receiver p.bytes.now p.at (memory first) s.receiver (memory s) q.at before (string_bytes q.lines) going;
+      follows = going_done w first.receiver p.bytes.now p.at (memory first) s.receiver (memory s) q.at before (string_bytes q.lines) going;
       wrote = e ∙ going.wrote;
       forward = going.forward;
       within = going.within;
-      stops = of_bytes p.known p.bytes.now (λ k b. (t : Said) → Begins k b t → may_stand false t ≡ true) q i.same stops;
+      stops = subst (λ b. (t : Said) → Begins (drop q.at b) t → may_stand false t ≡ true) i.same stops;
     }

@@ -7,25 +7,24 @@ use Rattle.channels.specs.declared.channel.Channel.{Channel}
 use Rattle.recording.specs.Answers.{Tells, silent, opening, Played}
 use Rattle.recording.specs.Kinds.{weighing}
 use Rattle.recording.specs.Lines.{opened_line, written, all_written, fault_written}
-use Rattle.recording.specs.Playing.{rest, finished, Plays, Begun, Read, CallsAfter, PlaysCalls}
+use Rattle.recording.specs.Playing.{rest, finished, Read, CallsAfter, PlaysCalls}
 use Rattle.recording.specs.declared.player.Player.{Player}
 use Rattle.records.specs.Recordings.{may_stand, Next, Spells, ends, faults, says}
 use Rattle.records.specs.Records.{Said, opens, Begins}
 use Rattle.records.specs.declared.record.Kind.{Kind}
-use Rattle.records.specs.declared.record.Openings.{Openings}
 
 -- an opening may stand anywhere
 opening_stands : (opened : Bool) (channel : Channel) (kind : Kind) → may_stand opened (opens channel kind) ≡ true
 opening_stands true channel kind = refl
 opening_stands false channel kind = refl
 
-module _ (known : Openings) (bytes : List ℕ) where
+module _ (bytes : List ℕ) where
   -- what the bytes from a place on make, where a channel has been opened or none
   pub record Rest (opened : Bool) (at : ℕ) (made : List ℕ) : Type 0 where
     pub records : List Said
     pub fault : Option ℕ
     pub lines : List (List ℕ)
-    pub spelt : Spells known opened at (drop at bytes) records fault
+    pub spelt : Spells opened at (drop at bytes) records fault
     pub told : Tells records lines
     pub shown : made ≡ all_written lines ++ fault_written fault
 
@@ -33,24 +32,24 @@ module _ (known : Openings) (bytes : List ℕ) where
   pub record Playing (at : ℕ) (so_far : List ℕ) : Type 0 where
     pub opened : Bool
     pub within : at ≤ length bytes
-    pub waits : (s : Said) → Next known opened (drop at bytes) s → may_stand false s ≡ true
-    pub gives : (made : List ℕ) → Rest opened at made → Played known bytes (so_far ++ made)
+    pub waits : (s : Said) → Next opened (drop at bytes) s → may_stand false s ≡ true
+    pub gives : (made : List ℕ) → Rest opened at made → Played bytes (so_far ++ made)
 
   -- where nothing is left, the text so far is the whole
-  pub playing_done : (at : ℕ) (so_far : List ℕ) → Playing at so_far → length bytes ≤ at → Played known bytes so_far
+  pub playing_done : (at : ℕ) (so_far : List ℕ) → Playing at so_far → length bytes ≤ at → Played bytes so_far
   playing_done at so_far p h =
-      subst (λ t. Played known bytes t) (append-nil so_far) (p.gives [] (record {
+      subst (λ t. Played bytes t) (append-nil so_far) (p.gives [] (record {
         records = [];
         fault = None;
         lines = [];
-        spelt = subst (λ b. Spells known p.opened at b [] None) (sym (drop_all at bytes h)) (ends p.opened at);
+        spelt = subst (λ b. Spells p.opened at b [] None) (sym (drop_all at bytes h)) (ends p.opened at);
         told = silent;
         shown = refl;
       }))
 
   -- where no opening stands, the text so far and the fault's line are the whole
   pub playing_fault : (at : ℕ) (so_far : List ℕ) → Playing at so_far → at < length bytes →
-      ((s : Said) → Next known false (drop at bytes) s → ⊥) → Played known bytes (so_far ++ fault_written (Some at))
+      ((s : Said) → Next false (drop at bytes) s → ⊥) → Played bytes (so_far ++ fault_written (Some at))
   playing_fault at so_far p h none =
       p.gives (fault_written (Some at)) (record {
         records = [];
@@ -62,8 +61,8 @@ module _ (known : Openings) (bytes : List ℕ) where
       })
 
   -- an opening is played with the calls that follow it
-  pub playing_after : (at stop : ℕ) (channel : Channel) (kind : Kind) (so_far after : List ℕ) → Playing at so_far → Begins known (drop at bytes) (opens channel kind) →
-      CallsAfter (weighing kind) known channel bytes (at + 4) (so_far ++ written (opened_line channel)) stop after → Playing stop after
+  pub playing_after : (at stop : ℕ) (channel : Channel) (kind : Kind) (so_far after : List ℕ) → Playing at so_far → Begins (drop at bytes) (opens channel kind) →
+      CallsAfter (weighing kind) channel bytes (at + 4) (so_far ++ written (opened_line channel)) stop after → Playing stop after
   playing_after at stop channel kind so_far after p b h =
       let f = h.follows in
       let line = written (opened_line channel) in
@@ -72,7 +71,7 @@ module _ (known : Openings) (bytes : List ℕ) where
         within = h.within;
         waits = λ s n. h.stops s n.begins;
         gives = λ made left.
-            subst (λ t. Played known bytes t)
+            subst (λ t. Played bytes t)
             (sym (append_assoc so_far line (h.made ++ made)) ∙ sym (append_assoc (so_far ++ line) h.made made) ∙ ap (λ t. t ++ made) (sym h.wrote))
             (p.gives (line ++ (h.made ++ made)) (record {
               records = opens channel kind ∷ (f.since ++ left.records);
@@ -81,7 +80,7 @@ module _ (known : Openings) (bytes : List ℕ) where
               spelt =
                   says p.opened at (drop at bytes) (opens channel kind) (f.since ++ left.records) left.fault
                   (record { begins = b; stands = opening_stands p.opened channel kind })
-                  (subst (λ t. Spells known true (at + 4) t (f.since ++ left.records) left.fault) (sym (drop-drop 4 at bytes))
+                  (subst (λ t. Spells true (at + 4) t (f.since ++ left.records) left.fault) (sym (drop-drop 4 at bytes))
                   (f.spelt left.records left.fault left.spelt));
               told = opening channel kind h.receiver h.memory f.since left.records f.lines left.lines h.tuned f.goes left.told;
               shown =
@@ -93,13 +92,9 @@ module _ (known : Openings) (bytes : List ℕ) where
             }));
       }
 
-  -- what is read of a player of these bytes is read of them
-  pub of_bytes : (P : Openings → List ℕ → Type 0) (p : Player) → Plays known bytes p → P p.known (rest p) → P known (drop p.at bytes)
-  of_bytes P p i r = subst (λ b. P known (drop p.at b)) i.bytes (subst (λ k. P k (rest p)) i.known r)
-
   -- how far a player of these bytes has come
   pub record Playing_by (p : Player) : Type 0 where
-    pub plays : Plays known bytes p
+    pub same : p.bytes.now ≡ bytes
     pub playing : Playing p.at (string_bytes p.lines)
 
   -- an opening and the calls after it are played
@@ -108,31 +103,29 @@ module _ (known : Openings) (bytes : List ℕ) where
       let After = CallsAfter (weighing kind) in
       let line = written (opened_line channel) in
       let made = string_bytes r.lines in
-      let knows = o.same.known ∙ i.plays.known in
-      let whole = o.same.bytes ∙ i.plays.bytes in
-      let after : After known channel bytes (p.at + 4) (string_bytes p.lines ++ line) r.at made =
-      subst (λ k. After k channel bytes (p.at + 4) (string_bytes p.lines ++ line) r.at made) knows
-      (subst (λ b. After q.known channel b (p.at + 4) (string_bytes p.lines ++ line) r.at made) whole
-      (subst (λ n. After q.known channel q.bytes.now n (string_bytes p.lines ++ line) r.at made) o.at
-      (subst (λ t. After q.known channel q.bytes.now q.at (string_bytes t ++ line) r.at made) o.lines h.after))) in
+      let whole = o.same ∙ i.same in
+      let after : After channel bytes (p.at + 4) (string_bytes p.lines ++ line) r.at made =
+      subst (λ b. After channel b (p.at + 4) (string_bytes p.lines ++ line) r.at made) whole
+      (subst (λ n. After channel q.bytes.now n (string_bytes p.lines ++ line) r.at made) o.at
+      (subst (λ t. After channel q.bytes.now q.at (string_bytes t ++ line) r.at made) o.lines h.after)) in
       record {
-        plays = record { known = h.same.known ∙ knows; bytes = h.same.bytes ∙ whole };
+        same = h.same ∙ whole;
         playing =
             playing_after p.at r.at channel kind (string_bytes p.lines) made i.playing
-            (of_bytes (λ k b. Begins k b (opens channel kind)) p i.plays o.begins) after;
+            (subst (λ b. Begins (drop p.at b) (opens channel kind)) i.same o.begins) after;
       }
 
   -- where no opening comes next, the lines with that of the fault are the whole
-  finished_so : (p : Player) → Playing_by p → ((s : Said) → Next p.known false (rest p) s → ⊥) → (more : Bool) → nat_lt p.at (length bytes) ≡ more →
-      Played known bytes (string_bytes p.lines ++ cond more (fault_written (Some p.at)) [])
+  finished_so : (p : Player) → Playing_by p → ((s : Said) → Next false (rest p) s → ⊥) → (more : Bool) → nat_lt p.at (length bytes) ≡ more →
+      Played bytes (string_bytes p.lines ++ cond more (fault_written (Some p.at)) [])
   finished_so p i none true e =
       playing_fault p.at (string_bytes p.lines) i.playing (ltb-true p.at (length bytes) e)
-      (of_bytes (λ k b. (s : Said) → Next k false b s → ⊥) p i.plays none)
+      (subst (λ b. (s : Said) → Next false (drop p.at b) s → ⊥) i.same none)
   finished_so p i none false e =
-      subst (λ t. Played known bytes t) (sym (append-nil (string_bytes p.lines)))
+      subst (λ t. Played bytes t) (sym (append-nil (string_bytes p.lines)))
       (playing_done p.at (string_bytes p.lines) i.playing (ltb-false p.at (length bytes) e))
 
-  pub finished_by : (p : Player) → Playing_by p → ((s : Said) → Next p.known false (rest p) s → ⊥) → Played known bytes (finished p)
+  pub finished_by : (p : Player) → Playing_by p → ((s : Said) → Next false (rest p) s → ⊥) → Played bytes (finished p)
   finished_by p i none =
-      subst (λ b. Played known bytes (string_bytes p.lines ++ cond (nat_lt p.at (length b)) (fault_written (Some p.at)) [])) (sym i.plays.bytes)
+      subst (λ b. Played bytes (string_bytes p.lines ++ cond (nat_lt p.at (length b)) (fault_written (Some p.at)) [])) (sym i.same)
       (finished_so p i none (nat_lt p.at (length bytes)) refl)

@@ -14,7 +14,6 @@ use Rattle.recording.specs.Lines.{opened_line, answer_line, stolen_line, restart
 use Rattle.records.specs.Recordings.{Spells}
 use Rattle.records.specs.Records.{Said, opens, hears, misses, steals, restarts}
 use Rattle.records.specs.declared.record.Kind.{Kind}
-use Rattle.records.specs.declared.record.Openings.{Openings}
 
 module _ (w : Weighing) (opened : Receiver w.C Laying w.S w.P) where
   -- the memory lent is what is needed, and that is enough
@@ -67,11 +66,11 @@ pub data Tells : List Said → List (List ℕ) → Type 0 where
       Goes (weighing kind) r r m [] (begun m.ring) since lines → Tells rest more →
       Tells (opens channel kind ∷ (since ++ rest)) (opened_line channel ∷ (lines ++ more))
 
--- the text that playing the bytes makes, where these openings are known: the lines of the records that they spell, and that of the fault that stops reading, if there is one
-pub record Played (known : Openings) (bytes : List ℕ) (made : List ℕ) : Type 0 where
+-- the text that playing the bytes makes: the lines of the records that they spell, and that of the fault that stops reading, if there is one
+pub record Played (bytes made : List ℕ) : Type 0 where
   pub records : List Said
   pub fault : Option ℕ
   pub lines : List (List ℕ)
-  pub spelt : Spells known false 0 bytes records fault
+  pub spelt : Spells false 0 bytes records fault
   pub told : Tells records lines
   pub shown : made ≡ all_written lines ++ fault_written fault

@@ -17,7 +17,6 @@ use Rattle.records.specs.Recordings.{may_stand, Next, Spells}
 use Rattle.records.specs.Records.{Said, opens, hears, misses, steals, restarts, spelling, Begins}
 use Rattle.stations.specs.Stations.{memory, HearsHere, MissesHere, RestartsHere}
 use Rattle.records.specs.declared.record.Kind.{Kind}
-use Rattle.records.specs.declared.record.Openings.{Openings}
 use Rattle.stations.specs.declared.station.Station.{Station}
 
 -- what has not been played yet
@@ -28,32 +27,27 @@ rest p = drop p.at p.bytes.now
 abbrev pub finished : Player → List ℕ
 finished p = string_bytes p.lines ++ cond (nat_lt p.at (length p.bytes.now)) (fault_written (Some p.at)) []
 
--- these bytes are played, and these openings are known
-pub record Plays (openings : Openings) (whole : List ℕ) (p : Player) : Type 0 where
-  pub known : p.known ≡ openings
-  pub bytes : p.bytes.now ≡ whole
-
--- the same as before
+-- the bytes are the same as before
 abbrev pub Same : Player → Player → Type 0
-Same p p' = Plays p.known p.bytes.now p'
+Same p p' = p'.bytes.now ≡ p.bytes.now
 
 -- nothing has been played yet
-pub record Begun (openings : Openings) (whole : List ℕ) (p : Player) : Type 0 where
-  pub plays : Plays openings whole p
+pub record Begun (whole : List ℕ) (p : Player) : Type 0 where
+  pub bytes : p.bytes.now ≡ whole
   pub at : p.at ≡ 0
   pub lines : string_bytes p.lines ≡ []
 
 -- the opening that comes next has been read
 pub record Read (channel : Channel) (kind : Kind) (p p' : Player) : Type 0 where
   pub same : Same p p'
-  pub begins : Begins p.known (rest p) (opens channel kind)
+  pub begins : Begins (rest p) (opens channel kind)
   pub at : p'.at ≡ p.at + length (spelling (opens channel kind))
   pub lines : p'.lines ≡ p.lines
 
 -- or none comes next
 abbrev pub Opens : Player → Option (Channel × Kind) → Player → Type 0
 Opens p (Some (channel, kind)) p' = Read channel kind p p'
-Opens p None p' = ((s : Said) → Next p.known false (rest p) s → ⊥) × (p' ≡ p)
+Opens p None p' = ((s : Said) → Next false (rest p) s → ⊥) × (p' ≡ p)
 
 -- a kind of cost, with its samples and figures
 abbrev pub weighed : {C S P : Type 0} → cost.Ghosts C S P → (ℕ → S) → (C → List ℕ) → Weighing
@@ -93,30 +87,30 @@ module _ (w : Weighing) where
   Turns said s before false s' after = (may_stand false said ≡ true) × (after ≡ before)
 
   -- the bytes from one place to another spell calls that the history of a receiver goes on with; what is made is the text of their lines
-  pub record Follows (known : Openings) (opened : Receiver w.C Laying w.S w.P) (bytes : List ℕ)
+  pub record Follows (opened : Receiver w.C Laying w.S w.P) (bytes : List ℕ)
       (r : Receiver w.C Laying w.S w.P) (m : Memory w.S w.P) (bursts : List (List w.S))
       (h : History w.kind laying_line opened r m.ring bursts) (at stop : ℕ) (made : List ℕ) : Type 0 where
     pub since : List Said
     pub lines : List (List ℕ)
     pub goes : Goes w opened r m bursts h since lines
-    pub spelt : (records : List Said) (fault : Option ℕ) → Spells known true stop (drop stop bytes) records fault →
-        Spells known true at (drop at bytes) (since ++ records) fault
+    pub spelt : (records : List Said) (fault : Option ℕ) → Spells true stop (drop stop bytes) records fault →
+        Spells true at (drop at bytes) (since ++ records) fault
     pub shown : made ≡ all_written lines
 
   -- all calls that follow an opening of the channel
-  pub record CallsAfter (known : Openings) (channel : Channel) (bytes : List ℕ) (start : ℕ) (before : List ℕ) (stop : ℕ) (after : List ℕ) : Type 0 where
+  pub record CallsAfter (channel : Channel) (bytes : List ℕ) (start : ℕ) (before : List ℕ) (stop : ℕ) (after : List ℕ) : Type 0 where
     pub receiver : Receiver w.C Laying w.S w.P
     pub memory : Memory w.S w.P
     pub made : List ℕ
     pub tuned : Tuned w.kind channel receiver
-    pub follows : Follows known receiver bytes receiver memory [] (begun memory.ring) start stop made
+    pub follows : Follows receiver bytes receiver memory [] (begun memory.ring) start stop made
     pub wrote : after ≡ before ++ made
     pub forward : start ≤ stop
     pub within : stop ≤ length bytes
     -- what comes next is no call
-    pub stops : (s : Said) → Begins known (drop stop bytes) s → may_stand false s ≡ true
+    pub stops : (s : Said) → Begins (drop stop bytes) s → may_stand false s ≡ true
 
   -- they have been played, and the line of the opening before them
   pub record PlaysCalls (channel : Channel) (p p' : Player) : Type 0 where
     pub same : Same p p'
-    pub after : CallsAfter p.known channel p.bytes.now p.at (string_bytes p.lines ++ written (opened_line channel)) p'.at (string_bytes p'.lines)
+    pub after : CallsAfter channel p.bytes.now p.at (string_bytes p.lines ++ written (opened_line channel)) p'.at (string_bytes p'.lines)

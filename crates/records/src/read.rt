@@ -2,19 +2,19 @@
 ghost use Rattle.std.specs.Prelude.{ℕ, List, ◌∷◌};
 ghost use Rattle.records.specs.Records.{Reads};
 
-use crate::record::{Kind, Openings, Record};
+use crate::record::{Kind, Record};
 use channels::channel::Channel;
 
 // The most samples that one record holds.
 const MOST: usize = 1024;
 
 // The record at the front of the bytes, and how many bytes it takes; none if they do not begin with a whole known record.
-pub fn next_record<'a>(known: Openings, bytes: &'a [u8]) -> Option<(Record<'a>, usize)>
-    ensures { Reads known bytes.now result }
+pub fn next_record<'a>(bytes: &'a [u8]) -> Option<(Record<'a>, usize)>
+    ensures { Reads bytes.now result }
 {
     match bytes {
-        [b'O', b'P', channel, kind, ..] => opened(known, *channel, *kind),
-        [b'H', b'E', high, low, rest @ ..] => heard(known, *high, *low, rest),
+        [b'O', b'P', channel, kind, ..] => opened(*channel, *kind),
+        [b'H', b'E', high, low, rest @ ..] => heard(*high, *low, rest),
         [b'M', b'I', ..] => Some((Record::Miss, 2)),
         [b'S', b'T', ..] => Some((Record::Stolen, 2)),
         [b'R', b'E', ..] => Some((Record::Restart, 2)),
@@ -22,18 +22,16 @@ pub fn next_record<'a>(known: Openings, bytes: &'a [u8]) -> Option<(Record<'a>, 
     }
 }
 
-fn opened<'a>(known: Openings, channel: u8, kind: u8) -> Option<(Record<'a>, usize)>
-    ensures { (tail : List ℕ) → Reads known (0x4F ∷ 0x50 ∷ channel ∷ kind ∷ tail) result }
+fn opened<'a>(channel: u8, kind: u8) -> Option<(Record<'a>, usize)>
+    ensures { (tail : List ℕ) → Reads (0x4F ∷ 0x50 ∷ channel ∷ kind ∷ tail) result }
 {
     let channel = Channel::try_from(channel).ok()?;
     let kind = Kind::try_from(kind).ok()?;
-    known
-        .has(channel, kind)
-        .then_some((Record::Open { channel, kind }, 4))
+    Some((Record::Open { channel, kind }, 4))
 }
 
-fn heard<'a>(known: Openings, high: u8, low: u8, rest: &'a [u8]) -> Option<(Record<'a>, usize)>
-    ensures { Reads known (0x48 ∷ 0x45 ∷ high ∷ low ∷ rest.now) result }
+fn heard<'a>(high: u8, low: u8, rest: &'a [u8]) -> Option<(Record<'a>, usize)>
+    ensures { Reads (0x48 ∷ 0x45 ∷ high ∷ low ∷ rest.now) result }
 {
     let count = usize::from(u16::from_be_bytes([high, low]));
     if count > MOST {

@@ -1,6 +1,6 @@
 // The records of a recording.
 ghost use Rattle.std.specs.Prelude.{◌≡◌, MatchResult, ◌++◌, Some, codes, decimal};
-ghost use Rattle.records.specs.Records.{has, kind_byte, NamesNoKind};
+ghost use Rattle.records.specs.Records.{kind_byte, NamesNoKind};
 
 use channels::channel::Channel;
 use std::error::Error;
@@ -11,13 +11,6 @@ use std::fmt;
 pub enum Kind {
     Count,
     Ranked,
-}
-
-// The openings that a program knows: the bench's at the count kind, or those of all channels at both kinds.
-#[derive(Clone, Copy, Debug, PartialEq, Eq)]
-pub enum Openings {
-    Bench,
-    All,
 }
 
 #[derive(Clone, Copy)]
@@ -53,17 +46,6 @@ impl TryFrom<u8> for Kind {
             0 => Ok(Kind::Count),
             1 => Ok(Kind::Ranked),
             _ => Err(UnknownKind(byte)),
-        }
-    }
-}
-
-impl Openings {
-    pub fn has(self, channel: Channel, kind: Kind) -> bool
-        ensures { result ≡ has self channel kind }
-    {
-        match self {
-            Openings::Bench => matches!((channel, kind), (Channel::Bench, Kind::Count)),
-            Openings::All => true,
         }
     }
 }

@@ -15,17 +15,16 @@ use cost::count::Count;
 use cost::ranked::Ranked;
 use link::refusal::Refusal;
 use records::read::next_record;
-use records::record::{Kind, Openings, Record};
+use records::record::{Kind, Record};
 use stations::station::Station;
 use std::alloc::{AllocError, Global};
 
 impl<'a> Player<'a> {
-    pub(crate) fn new(heap: Global, known: Openings, bytes: &'a [u8]) -> Player<'a>
-        ensures { Begun known bytes.now result }
+    pub(crate) fn new(heap: Global, bytes: &'a [u8]) -> Player<'a>
+        ensures { Begun bytes.now result }
     {
         Player {
             heap,
-            known,
             bytes,
             at: 0,
             lines: String::new(heap),
@@ -33,9 +32,9 @@ impl<'a> Player<'a> {
     }
 
     fn next(&self) -> Option<(Record<'a>, usize)>
-        ensures { Reads self.now.known (rest self.now) result }
+        ensures { Reads (rest self.now) result }
     {
-        next_record(self.known, &self.bytes[self.at..])
+        next_record(&self.bytes[self.at..])
     }
 
     // Reads the opening that comes next, if one does.

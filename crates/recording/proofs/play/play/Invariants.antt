@@ -3,7 +3,7 @@ use Rattle.recording.proofs.Playing.{Playing_by}
 use Rattle.recording.proofs.play.play.Given as goal
 
 abbrev pub invariant-loop-channel : goal.invariant-loop-channel
-invariant-loop-channel l = Playing_by l.fn.known l.fn.bytes l.player
+invariant-loop-channel l = Playing_by l.fn.bytes l.player
 
 abbrev pub decreases-loop-channel : goal.decreases-loop-channel
 decreases-loop-channel l = length l.player.bytes.now - l.player.at

@@ -1,11 +1,10 @@
-use Rattle.std.proofs.Common.{◌≡◌, ◌+◌, ◌++◌, true, false, Some, string_bytes, sym, refl, subst}
+use Rattle.std.proofs.Common.{◌≡◌, ◌+◌, ◌++◌, drop, true, false, Some, string_bytes, sym, refl, subst}
 use Rattle.recording.specs.Lines.{opened_line, written}
 use Rattle.recording.specs.Playing.{weighed, Wrote, Turns, PlaysCalls}
 use Rattle.records.specs.Recordings.{may_stand}
 use Rattle.records.specs.Records.{said, Reads}
 use Rattle.stations.specs.Stations.{memory}
 use Rattle.recording.proofs.Going.{Going, going_begun, going_after, calls_after}
-use Rattle.recording.proofs.Playing.{of_bytes}
 use Rattle.recording.proofs.player.Player.play_calls.Goals as goal
 use Rattle.recording.proofs.player.Player.play_calls.Goals.{in-Some+in_ok-answer+then-not-branch, in_default}
 
@@ -16,10 +15,10 @@ loop-record-init g c =
     let s = c.in_ok-station.station in
     let before = string_bytes p.lines ++ written (opened_line c.args.channel) in
     record {
-      same = record { known = refl; bytes = refl };
+      same = refl;
       going =
-          subst (λ t. Going w p.known s.receiver p.bytes.now p.at (memory s) s.receiver (memory s) p.at before t) (sym c.in_ok-put.ensures)
-          (going_begun w p.known p.bytes.now p.at s before c.in_ok-station.ensures.room p.within);
+          subst (λ t. Going w s.receiver p.bytes.now p.at (memory s) s.receiver (memory s) p.at before t) (sym c.in_ok-put.ensures)
+          (going_begun w p.bytes.now p.at s before c.in_ok-station.ensures.room p.within);
     }
 
 pub loop-record-preserved : goal.loop-record-preserved
@@ -35,13 +34,13 @@ loop-record-preserved g c =
     let text = string_bytes q.lines in
     let text' = string_bytes c.answer.new.lines in
     let says = said c.in-Some.record in
-    let found = of_bytes p.known p.bytes.now (λ k b. Reads k b (Some (c.in-Some.record, c.in-Some.taken))) q i.same c.in-Some.ensures in
+    let found = subst (λ b. Reads (drop q.at b) (Some (c.in-Some.record, c.in-Some.taken))) i.same c.in-Some.ensures in
     let wrote : Wrote w says s text s' text' = subst (λ b. Turns w says s text b s' text') c.if-not-branch.false c.in_ok-answer.ensures in
     record {
-      same = record { known = i.same.known; bytes = i.same.bytes };
+      same = i.same;
       going =
-          subst (λ n. Going w p.known first.receiver p.bytes.now p.at (memory first) s'.receiver (memory s') (q.at + n) before text') (sym found.1)
-          (going_after w p.known first.receiver p.bytes.now p.at (memory first) c.in_ok-station.ensures.tuned.opened.histories s s' q.at before text text'
+          subst (λ n. Going w first.receiver p.bytes.now p.at (memory first) s'.receiver (memory s') (q.at + n) before text') (sym found.1)
+          (going_after w first.receiver p.bytes.now p.at (memory first) c.in_ok-station.ensures.tuned.opened.histories s s' q.at before text text'
           says found.0 i.going wrote);
     }
 
@@ -63,7 +62,7 @@ returns g c =
           subst (λ b. Turns w says s text b v.answer.new.station (string_bytes v.answer.new.lines)) v.if-not-branch.true v.in_ok-answer.ensures in
           subst (λ q'. PlaysCalls w c.args.channel p q') (sym v.self-is)
           (record {
-            same = record { known = i.same.known; bytes = i.same.bytes };
+            same = i.same;
             after = after (string_bytes v.answer.new.lines) turned.1 (λ t b. subst (λ u. may_stand false u ≡ true) (sym (found.2 t b)) turned.0);
           })
       | in_default v ↦

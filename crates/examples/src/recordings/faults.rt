@@ -2,7 +2,6 @@
 use super::{Part, each_prints, plays};
 use crate::bursts::DATA24_0;
 use crate::played::long_burst;
-use records::record::Openings;
 use std::test::*;
 
 const FIRST: [(&[u8], &str); 4] = [
@@ -73,7 +72,6 @@ fn most_samples(rt: HostRuntime) -> Result<(), Fail> {
     long_burst(
         &rt,
         rt.alloc(),
-        Openings::All,
         b"OP\x00\x00HE\x04\x00",
         1024,
         "O 0\nX 6 1024\n",
@@ -81,7 +79,6 @@ fn most_samples(rt: HostRuntime) -> Result<(), Fail> {
     long_burst(
         &rt,
         rt.alloc(),
-        Openings::All,
         b"OP\x00\x00HE\x04\x01",
         1025,
         "O 0\nX 12 4\n",
