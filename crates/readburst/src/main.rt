@@ -1,10 +1,17 @@
 // Plays the recording on standard input, and prints its lines.
 #![tactic(auto)]
 
+use anyhow::ensure;
 use recording::play::play;
+use std::env;
 use std::io::Read;
 
 fn main(rt: HostRuntime) -> anyhow::Result<()> {
+    let arguments = env::args(&rt)?.count();
+    ensure!(
+        arguments <= 1,
+        "no arguments are taken: the recording is read from standard input"
+    );
     let mut bytes = Vec::new(rt.alloc());
     rt.stdin().read_to_end(&mut bytes)?;
     let lines = play(rt.alloc(), &bytes)?;
