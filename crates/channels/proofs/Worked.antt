@@ -11,6 +11,7 @@ use Rattle.cost.specs.Ranking.{ranked}
 use Rattle.cost.specs.contracts.count.weigh.CountCost.TheImpl.{ghosts as count_kind}
 use Rattle.cost.specs.contracts.ranked.weigh.RankedCost.TheImpl.{ghosts as ranked_kind}
 use Rattle.line.specs.Interleaver.{interleaved, moved}
+use Rattle.line.specs.LinesLemmas.{unpunctured_laws, interleaved_laws}
 use Rattle.line.specs.Scrambler.{sum}
 use Rattle.trellis.specs.Coding.{coded_bit}
 use Rattle.trellis.specs.Paths.{cost_of}
@@ -49,7 +50,11 @@ sent j = cond_both (ltb j 16) (Some (j, false)) None (λ o. Sent j (interleaved 
 
 -- 100000 is sent so
 sends : Carries bench_terms run burst
-sends = record { whole = refl; bits = λ j k turned e. subst (Sent j) e (sent j) }
+sends = record {
+  whole = refl;
+  bits = λ j k turned e. subst (Sent j) e (sent j);
+  full = (interleaved_laws unpunctured_laws).filled (record { 0 = record { bits = 16 } });
+}
 
 -- counted, 000000 costs 3
 counts_zeros : bench_cost count_kind (clean count_kind) (written 6 0b000000) ≡ counted 3

@@ -3,7 +3,7 @@ use Rattle.std.specs.Prelude.{◌≡◌, ℕ, ◌*◌, Bool, true, Option}
 use Rattle.cost.specs.declared.kind.Cost as cost
 use Rattle.line.specs.declared.laying.Line as line
 use Rattle.line.specs.Interleaver.{interleaved}
-use Rattle.line.specs.Layouts.{in_order}
+use Rattle.line.specs.Unpunctured.{in_order}
 use Rattle.puncture.specs.Patterns.{numbered}
 use Rattle.puncture.specs.Masks.{pattern}
 use Rattle.line.specs.Scrambler.{scrambled}
@@ -25,8 +25,10 @@ pub record Terms : Type 0 where
   pub message : ℕ
   pub parity : ℕ
   pub depth : ℕ
+  -- the coded bits of a block, and the bits of a burst
   pub coded : ℕ
   pub burst : ℕ
+  -- where coded bit j goes, and whether it is turned over there
   pub place : ℕ → Option (ℕ × Bool)
 
 -- the bench: every bit kept, interleaved
@@ -88,23 +90,27 @@ abbrev pub asked : Terms → Laying → Proposal Laying
 asked t l = record { code = t.code; message = t.message; parity = t.parity; depth = t.depth; line = l }
 
 -- a proposal that breaks no rule of opening
-pub record Openable {L : Type 0} (l : line.Ghosts L) (p : Proposal L) : Type 0 where
+pub record Openable (p : Proposal Laying) : Type 0 where
   pub code : sound p.code ≡ true
   pub lengths : lengths_suit p.message p.parity p.depth ≡ true
-  pub laying : line_suits l p.line (p.code.rows * steps_of p.code p.message p.parity) ≡ true
+  pub laying : line_suits laying_line p.line (p.code.rows * steps_of p.code p.message p.parity) ≡ true
 
--- a proposal of what a channel sets, with a line that suits and lays a block as the channel does
+-- a proposal of what a channel sets
 pub record Proposes (channel : Channel) (p : Proposal Laying) : Type 0 where
+  -- its code and lengths are the channel's
   pub asks : p ≡ asked (terms channel) p.line
+  -- its line suits, and lays as many bits in as many places, each where the channel sets
   pub suited : laying_line.suited p.line ≡ true
   pub coded : laying_line.coded p.line ≡ (terms channel).coded
   pub burst : laying_line.sent p.line ≡ (terms channel).burst
   pub places : (j : ℕ) → laying_line.place p.line j ≡ (terms channel).place j
 
--- a receiver opened for a channel: its line lays a block as the channel sets, and every history of it is sound
+-- a receiver opened for a channel
 pub record Tuned {C S P : Type 0} (k : cost.Ghosts C S P) (channel : Channel) (r : Receiver C Laying S P) : Type 0 where
   pub line : Laying
+  -- it was opened with the channel's code and lengths and this line; every history of it is sound
   pub opened : Opened k laying_line (asked (terms channel) line) r
+  -- the line lays as many bits in as many places, each where the channel sets
   pub coded : laying_line.coded line ≡ (terms channel).coded
   pub burst : laying_line.sent line ≡ (terms channel).burst
   pub places : (j : ℕ) → laying_line.place line j ≡ (terms channel).place j

@@ -1,5 +1,5 @@
 -- Worked examples of the definitions.
-use Rattle.std.specs.Prelude.{◌≡◌, ℕ, Bool, true, false, List, ◌++◌, map, reverse, length, get_or, replicate, ℤ, pos, negsuc, Some, None, Option, slice_index_or}
+use Rattle.std.specs.Prelude.{◌≡◌, ℕ, ◌<◌, Bool, true, false, List, ◌++◌, map, reverse, length, get_or, replicate, ℤ, pos, negsuc, Some, None, Option, slice_index_or}
 use Rattle.std.specs.List.{range_with_len}
 use Rattle.cost.specs.Counting.{counted}
 use Rattle.cost.specs.Samples.{clean}
@@ -12,13 +12,13 @@ use Rattle.puncture.specs.Patterns.{numbered}
 use Rattle.puncture.specs.Masks.{pattern}
 use Rattle.line.specs.Scrambler.{sum}
 use Rattle.link.specs.Due.{placed}
+use Rattle.link.specs.Rules.{steps_of}
 use Rattle.trellis.specs.Bits.{bits}
 use Rattle.trellis.specs.Codes.{rows_of}
 use Rattle.trellis.specs.Coding.{coded_bit}
 use Rattle.trellis.specs.Paths.{cost_of}
 use Rattle.trellis.specs.Rule.{answer}
-use Rattle.channels.specs.Channels.{Terms, bench_terms}
-use Rattle.channels.specs.Layings.{laying_line}
+use Rattle.channels.specs.Channels.{Terms, bench_terms, bcch_terms, data24_terms}
 use Rattle.channels.specs.Tables.{bench_code, data96_masks}
 
 -- the n bits that a number writes, the first one highest
@@ -33,10 +33,12 @@ coded_bits t run = map (coded_bit t.code run) (range_with_len 0 t.coded)
 pub record Carries (t : Terms) (run burst : List Bool) : Type 0 where
   pub whole : length burst ≡ t.burst
   pub bits : (j k : ℕ) (turned : Bool) → t.place j ≡ Some (k, turned) → slice_index_or burst k false ≡ sum (coded_bit t.code run j) turned
+  -- and at every place it has one
+  pub full : (k : ℕ) → k < t.burst → (j : ℕ) × (turned : Bool) × (t.place j ≡ Some (k, turned))
 
 -- the path of a run: its bits and the closing zeros, the newest first
 abbrev pub bench_path : List Bool → List Bool
-bench_path run = replicate 2 false ++ reverse run
+bench_path run = replicate bench_code.memory false ++ reverse run
 
 -- the bits of the burst heard
 abbrev pub heard : List Bool
@@ -50,27 +52,28 @@ level false = pos 10
 module _ {C S P : Type 0} (k : cost.Ghosts C S P) (sample : Bool → S) where
   -- what coded place j of the bench meets
   abbrev pub bench_met : ℕ → List (S × Bool)
-  bench_met j = placed laying_line (λ p. get_or (map sample heard) p k.NOTHING) (bench_terms.place j)
+  bench_met j = placed (λ p. get_or (map sample heard) p k.NOTHING) (bench_terms.place j)
 
   -- what a run costs
   abbrev pub bench_cost : List Bool → C
   bench_cost run = cost_of k (rows_of bench_code) bench_met (bench_path run)
 
-  -- the path that the rule answers after 6 bits and 2 closing zeros
+  -- the path that the rule answers after the bench's bits and closing zeros
   abbrev pub bench_answer : Option (List Bool)
-  bench_answer = answer k (rows_of bench_code) bench_met 2 8
+  bench_answer =
+      answer k (rows_of bench_code) bench_met bench_code.memory (steps_of bench_code bench_terms.message bench_terms.parity)
 
 pub record WorkedExamples : Type 0 where
   -- the interleaver of the broadcast control channel, of 424 bits: place 1 goes to 265
-  pub bcch_1 : moved 424 1 ≡ 265
+  pub bcch_1 : moved bcch_terms.burst 1 ≡ 265
   -- place 8 goes to 1
-  pub bcch_8 : moved 424 8 ≡ 1
+  pub bcch_8 : moved bcch_terms.burst 8 ≡ 1
   -- place 423 goes to 211
-  pub bcch_423 : moved 424 423 ≡ 211
+  pub bcch_423 : moved bcch_terms.burst 423 ≡ 211
   -- the interleaver of the data channels, of 648 bits: place 1 goes to 405
-  pub data_1 : moved 648 1 ≡ 405
+  pub data_1 : moved data24_terms.burst 1 ≡ 405
   -- place 647 goes to 323
-  pub data_647 : moved 648 647 ≡ 323
+  pub data_647 : moved data24_terms.burst 647 ≡ 323
   -- the mask of the 9.6 kbit/s data channel: coded bit 0 goes to place 0
   pub mask_0 : numbered (pattern data96_masks) 0 ≡ Some (0, false)
   -- coded bit 1 is not sent

@@ -6,7 +6,7 @@ use Rattle.line.specs.Scrambler.{scrambled}
 use Rattle.puncture.specs.Masks.{Masks, sound, coded_of, pattern}
 use Rattle.puncture.specs.Patterns.{kept, numbered}
 use Rattle.line.specs.Lines.{interleaved_line, scrambled_line, unpunctured_line}
-use Rattle.puncture.specs.Laying.{mask_line}
+use Rattle.puncture.specs.MaskLine.{mask_line}
 use Rattle.channels.specs.declared.laying.Laying.{Laying}
 use Rattle.channels.specs.declared.laying.Laying.TheVariants.{Whole, Scrambled, Punctured}
 
@@ -36,6 +36,8 @@ laying_line = record { coded = laid_coded; sent = laid_sent; suited = laid_suite
 -- a laying that punctures by these masks, and then interleaves and scrambles
 pub record Punctures (m : Masks) (l : Laying) : Type 0 where
   pub coded : laying_line.coded l ≡ coded_of m
+  -- it suits where the masks have no fault and what they keep fills rows of eight
   pub suited : laying_line.suited l ≡ (sound m && whole_rows (kept (pattern m)))
   pub sent : laying_line.sent l ≡ kept (pattern m)
+  -- a bit kept has its number, goes where the interleaver moves it, and is turned by the masking sequence
   pub places : (j : ℕ) → laying_line.place l j ≡ scrambled (interleaved (kept (pattern m)) (numbered (pattern m) j))

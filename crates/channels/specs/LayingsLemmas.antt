@@ -4,7 +4,7 @@ use Rattle.line.specs.Lawful.{Laws}
 use Rattle.line.specs.LinesLemmas.{unpunctured_laws, interleaved_laws, scrambled_laws}
 use Rattle.puncture.specs.Masking.{mask_laws}
 use Rattle.line.specs.Lines.{unpunctured_line, interleaved_line, scrambled_line}
-use Rattle.puncture.specs.Laying.{mask_line}
+use Rattle.puncture.specs.MaskLine.{mask_line}
 use Rattle.channels.specs.Layings.{laying_line}
 use Rattle.channels.specs.declared.laying.Laying.{Laying}
 use Rattle.channels.specs.declared.laying.Laying.TheVariants.{Whole, Scrambled, Punctured}

@@ -1,4 +1,3 @@
-pub mod Bench
 pub mod Bytes
 pub mod Channels
 pub mod Examples

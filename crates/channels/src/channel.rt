@@ -1,8 +1,10 @@
 // The channels by name.
-ghost use Rattle.channels.specs.Channels.{Proposes, Tuned};
+ghost use Rattle.channels.specs.Channels.{Openable, Proposes, Tuned};
+ghost use Rattle.channels.specs.Layings.{laying_line};
+ghost use Rattle.link.specs.Opening.{Opened};
 
 use crate::laying::Laying;
-use crate::{bcch, bench, data24, data96, opening};
+use crate::{bcch, bench, data24, data96};
 use cost::kind::Cost;
 use link::proposal::Proposal;
 use link::receiver::Receiver;
@@ -16,18 +18,12 @@ pub enum Channel {
 }
 
 impl Channel {
-    // What a receiver of the channel is opened with; the bench gets the line type that the channels share.
+    // What a receiver of the channel is opened with.
     pub fn proposal(self) -> Proposal<Laying>
         ensures { Proposes self result }
     {
         match self {
-            Channel::Bench => Proposal {
-                code: bench::CODE,
-                message: bench::MESSAGE,
-                parity: bench::PARITY,
-                depth: bench::DEPTH,
-                line: Laying::Whole(bench::LINE),
-            },
+            Channel::Bench => bench::proposal(),
             Channel::Bcch => bcch::proposal(),
             Channel::Data24 => data24::proposal(),
             Channel::Data96 => data96::proposal(),
@@ -38,6 +34,18 @@ impl Channel {
     pub fn open<C: Cost>(self) -> Receiver<C, Laying>
         ensures { Tuned C.Cost self result }
     {
-        opening::open(self.proposal())
+        open(self.proposal())
+    }
+}
+
+// A receiver of what breaks no rule of opening.
+fn open<C: Cost>(proposal: Proposal<Laying>) -> Receiver<C, Laying>
+    requires { Openable proposal }
+    ensures { Opened C.Cost laying_line proposal result }
+{
+    match Receiver::<C, Laying>::open(proposal) {
+        Ok(receiver) => receiver,
+        // No `expect`: the check has to see that no rule is broken.
+        Err(_) => unreachable(),
     }
 }

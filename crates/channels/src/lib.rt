@@ -9,4 +9,3 @@ pub mod data24;
 pub mod data96;
 pub mod examples;
 pub mod laying;
-mod opening;

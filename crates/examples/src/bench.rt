@@ -1,6 +1,7 @@
 // The bench: how a message is coded and sent, and what hearing a burst answers.
 use crate::told::report;
-use channels::bench::{CODE, LINE, open_bench};
+use channels::bench::{CODE, LINE};
+use channels::channel::Channel;
 use cost::count::Count;
 use line::laying::Line;
 use link::memory::Memory;
@@ -32,7 +33,7 @@ fn apart(a: &[u8; 16], b: &[u8; 16]) -> usize {
 
 // What a burst is answered, and the block memory after it.
 fn heard(burst: &[u8]) -> (Result<Answer<Count>, Refusal<Count>>, [u8; 6]) {
-    let mut receiver = open_bench::<Count>();
+    let mut receiver = Channel::Bench.open::<Count>();
     let mut block = [9; 6];
     let mut memory = Memory {
         ring: &mut [2; 16],

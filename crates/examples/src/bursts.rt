@@ -1,4 +1,5 @@
-// Messages and bursts of an outside encoder, bits as figures: message n and burst n of one stream.
+// Messages and bursts of the outside encoder, bits as figures: message n and burst n of one stream. They are the first of those that the
+// crate `vectors` has.
 
 #[derive(Clone, Copy)]
 pub(crate) struct Sent {

@@ -14,8 +14,6 @@ mod lines;
 #[cfg(test)]
 mod masks;
 #[cfg(test)]
-mod played;
-#[cfg(test)]
 mod ranked;
 #[cfg(test)]
 mod recordings;

@@ -1,6 +1,7 @@
 // The limits of a receiver: how long a message may be, how many bursts are counted, and what parity refuses.
 use crate::told::report;
-use channels::bench::{BenchLine, open_bench};
+use channels::channel::Channel;
+use channels::laying::Laying;
 use cost::count::Count;
 use line::unpunctured::Unpunctured;
 use link::memory::Memory;
@@ -44,7 +45,7 @@ fn a_message_has_at_most_512_bits(rt: HostRuntime) -> Result<(), Fail> {
 
 // Misses so many bursts, and tells the number of the last block.
 fn missed(
-    receiver: &mut Receiver<Count, BenchLine>,
+    receiver: &mut Receiver<Count, Laying>,
     times: usize,
     memory: &mut Memory<Count>,
 ) -> usize {
@@ -59,7 +60,7 @@ fn missed(
 
 #[test]
 fn a_million_bursts_are_counted(rt: HostRuntime) -> Result<(), Fail> {
-    let mut receiver = open_bench::<Count>();
+    let mut receiver = Channel::Bench.open::<Count>();
     let mut memory = Memory {
         ring: &mut [2; 16],
         costs: &mut [None; 8],

@@ -1,5 +1,5 @@
 // Recordings, and the lines that playing them makes.
-use crate::played::prints;
+use recording::play::play;
 use std::alloc::{AllocError, Global};
 use std::process::Abort;
 use std::test::*;
@@ -8,6 +8,26 @@ mod blocks;
 mod faults;
 mod marks;
 mod refusals;
+
+// A recording, and the lines that are expected of it.
+fn prints(rt: &impl Abort, alloc: Global, bytes: &[u8], lines: &str) -> Result<(), Fail> {
+    let played = play(alloc, bytes)?;
+    assert_eq!(rt; played.as_str(), lines);
+    Ok(())
+}
+
+// The same where so many samples that mean nothing follow the bytes.
+fn long_burst(
+    rt: &impl Abort,
+    alloc: Global,
+    header: &[u8],
+    samples: usize,
+    lines: &str,
+) -> Result<(), Fail> {
+    let mut bytes = header.to_vec(alloc)?;
+    bytes.resize(header.len().saturating_add(samples), 2)?;
+    prints(rt, alloc, &bytes, lines)
+}
 
 // Recordings, each beside its lines.
 fn each_prints(rt: &impl Abort, alloc: Global, cases: &[(&[u8], &str)]) -> Result<(), Fail> {

@@ -1,5 +1,5 @@
 pub mod Interleaver
-pub mod Layouts
+pub mod Unpunctured
 pub mod Lines
 pub mod Scrambler
 pub mod LinesLemmas

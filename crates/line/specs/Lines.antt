@@ -5,7 +5,7 @@ use Rattle.line.specs.declared.laying.Line.{Ghosts}
 use Rattle.line.specs.declared.scrambler.Scrambled.{Scrambled}
 use Rattle.line.specs.declared.unpunctured.Unpunctured.{Unpunctured}
 use Rattle.line.specs.Interleaver.{interleaved, whole_rows}
-use Rattle.line.specs.Layouts.{in_order}
+use Rattle.line.specs.Unpunctured.{in_order}
 use Rattle.line.specs.Scrambler.{scrambled}
 
 abbrev pub unpunctured_line : Ghosts Unpunctured

@@ -20,7 +20,7 @@ use Rattle.link.proofs.Rings.{stored_own, stored_other}
 pub met_fit : {C S P L : Type 0} (k : cost.Ghosts C S P) (l : line.Ghosts L) (x : L) (due : ℕ → S) → ((p : ℕ) → k.fit (due p) ≡ true) → Fit k (met_on l x due)
 met_fit k l x due fit j = by_place (l.place x j)
   where
-    by_place : (at : Option (ℕ × Bool)) → AllByRecursion (λ m. k.fit m.0 ≡ true) (placed l due at)
+    by_place : (at : Option (ℕ × Bool)) → AllByRecursion (λ m. k.fit m.0 ≡ true) (placed due at)
     by_place None = tt
     by_place (Some (p, turned)) = (fit p, tt)
 

@@ -23,14 +23,14 @@ module _ {L : Type 0} where
   abbrev pub stored : {S : Type 0} → Format L → ℕ → List S → List S → List S
   stored f n samples ring = laid_at (cell f n 0) samples ring
 
-module _ {S L : Type 0} (l : line.Ghosts L) where
-  -- what coded place j meets, where `due k` is the sample due at burst place k
-  abbrev pub placed : (ℕ → S) → Option (ℕ × Bool) → List (S × Bool)
-  placed due None = []
-  placed due (Some (k, turned)) = (due k, turned) ∷ []
+-- what a coded bit meets where it lies, `due k` being the sample due at burst place k
+abbrev pub placed : {S : Type 0} → (ℕ → S) → Option (ℕ × Bool) → List (S × Bool)
+placed due None = []
+placed due (Some (k, turned)) = (due k, turned) ∷ []
 
-  abbrev pub met_on : L → (ℕ → S) → ℕ → List (S × Bool)
-  met_on x due j = placed due (l.place x j)
+-- what coded place j meets where a line lays the block
+abbrev pub met_on : {S L : Type 0} → line.Ghosts L → L → (ℕ → S) → ℕ → List (S × Bool)
+met_on l x due j = placed due (l.place x j)
 
 module _ {C S P L : Type 0} (k : cost.Ghosts C S P) where
   -- the sample due to block b at burst place p, in the ring; past the burst there is none

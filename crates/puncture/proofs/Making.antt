@@ -8,7 +8,7 @@ use Rattle.puncture.proofs.Tables.{length_columns}
 use Rattle.puncture.specs.Masking.{length_strips}
 use Rattle.puncture.specs.PatternsLemmas.{length_laid_out}
 use Rattle.puncture.specs.Patterns.{kept, laid_out, numbered}
-use Rattle.puncture.specs.Laying.{Lays}
+use Rattle.puncture.specs.MaskLine.{Lays}
 use Rattle.puncture.specs.Masks.{Masks, Table, coded_of, covered, end_flat, end_width, flat, pattern, sound, sound_end, sound_period, width}
 use Rattle.puncture.specs.Strips.{held, pattern_of, suits}
 use Rattle.puncture.specs.declared.mask.Mask.{Mask}
@@ -59,9 +59,9 @@ fits m e =
       ranged = grind (arith, nat_tests);
     }
 
--- entries of prefix p, k middles w and suffix s, and of the columns left of n
-entries : (rows p k w n s : ℕ) → p + s + k * w ≤ n → rows * p + k * (rows * w) + rows * (n - (p + s + k * w)) + rows * s ≡ rows * n
-entries rows p k w n s h =
+-- by rows of prefix p, k middles w, suffix s and what is left of n columns, the entries are those of n columns
+entries_of_steps : (rows p k w n s : ℕ) → p + s + k * w ≤ n → rows * p + k * (rows * w) + rows * (n - (p + s + k * w)) + rows * s ≡ rows * n
+entries_of_steps rows p k w n s h =
     let turn : rows * (k * w) ≡ k * (rows * w) = sym (mul_assoc rows k w) ∙ ap (λ n. n * w) (mul_comm rows k) ∙ mul_assoc k rows w in
     let all : n ≡ (p + s + k * w) + (n - (p + s + k * w)) = omega arith in
     omega (arith, ap (λ x. rows * x) all, mul-add rows (p + s + k * w) (n - (p + s + k * w)), mul-add rows (p + s) (k * w), mul-add rows p s)
@@ -78,7 +78,7 @@ length_pattern m = by (sound m) refl
         let w = width m.middle in
         ap length (cond-true _ _ _ e)
         ∙ length_laid_out (end_flat m.prefix) m.times (flat m.middle) (rows * (m.steps - covered m)) (end_flat m.suffix)
-        ∙ omega (arith, f.ranged, f.front, f.back, ap (λ k. m.times * k) (flat_long m.middle), entries rows (end_width m.prefix) m.times w m.steps (end_width m.suffix) f.within)
+        ∙ omega (arith, f.ranged, f.front, f.back, ap (λ k. m.times * k) (flat_long m.middle), entries_of_steps rows (end_width m.prefix) m.times w m.steps (end_width m.suffix) f.within)
 
 -- a mask lays a block out by tables if it has their suiting and their pattern
 pub lays : (m : Masks) (r : Mask) → suits r ≡ sound m → pattern_of r ≡ pattern m → Lays m r

@@ -1,4 +1,4 @@
-pub mod Laying
+pub mod MaskLine
 pub mod Masks
 pub mod Patterns
 pub mod Strips

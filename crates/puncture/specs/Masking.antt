@@ -6,7 +6,7 @@ use Rattle.line.specs.Lawful.{Laws}
 use Rattle.puncture.specs.Packing.{length_bits}
 use Rattle.puncture.specs.PatternsLemmas.{kept_append, kept_ones, kept_times, kept_within, length_laid_out, numbered_left, numbered_past, numbered_in_turns, numbered_past_turns, numbered_among_ones, numbered_past_ones, numbered_within, numbered_apart, numbered_filled, numbered_ended, numbered_off, raised_none, raised_twice, turns_some}
 use Rattle.puncture.specs.Patterns.{kept, laid_out, times_over}
-use Rattle.puncture.specs.Laying.{mask_line}
+use Rattle.puncture.specs.MaskLine.{mask_line}
 use Rattle.puncture.specs.Strips.{held, past_middles, past_prefix, pattern_of}
 use Rattle.puncture.specs.declared.mask.Mask.TheVariants.{Sound}
 use Rattle.puncture.specs.declared.mask.Packed.{Packed}
@@ -49,7 +49,7 @@ kept_pattern p k e =
     )
 
 -- how the entries of one strip are numbered
-pub ruleset entries = (length_bits, kept_within, numbered_off, numbered_ended)
+pub ruleset numbering = (length_bits, kept_within, numbered_off, numbered_ended)
 
 -- how the bits of one part are numbered among all
 pub ruleset parts = (length_bits, held_within, turn_fits, turns_fit, numbered_left, numbered_past, numbered_in_turns, numbered_past_turns, numbered_among_ones, numbered_past_ones, raised_none, raised_twice)

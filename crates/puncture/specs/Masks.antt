@@ -14,6 +14,7 @@ pub record Masks : Type 0 where
   pub steps : ℕ
   pub prefix : Option Table
   pub middle : Table
+  -- how often the middle is applied
   pub times : ℕ
   pub suffix : Option Table
 

@@ -166,13 +166,13 @@ going_begun w bytes start s before room within =
     }
 
 -- how far a player has come with the calls that it began at `p`, with a station opened as `first`
-pub record Going_by (w : Weighing) (p : Player) (before : List ℕ) (first : Station w.C w.S w.P) (q : Player) (s : Station w.C w.S w.P) : Type 0 where
+pub record GoingBy (w : Weighing) (p : Player) (before : List ℕ) (first : Station w.C w.S w.P) (q : Player) (s : Station w.C w.S w.P) : Type 0 where
   pub same : Same p q
   pub going : Going w first.receiver p.bytes.now p.at (memory first) s.receiver (memory s) q.at before (string_bytes q.lines)
 
 -- where they stop, all calls after the opening have been played
 pub calls_after : (w : Weighing) (p : Player) (channel : Channel) (first : Station w.C w.S w.P) (q : Player) (s : Station w.C w.S w.P) →
-    Tuned w.kind channel first.receiver → Going_by w p (string_bytes p.lines ++ written (opened_line channel)) first q s →
+    Tuned w.kind channel first.receiver → GoingBy w p (string_bytes p.lines ++ written (opened_line channel)) first q s →
     (text : List ℕ) → text ≡ string_bytes q.lines → ((t : Said) → Begins (rest q) t → may_stand false t ≡ true) →
     CallsAfter w channel p.bytes.now p.at (string_bytes p.lines ++ written (opened_line channel)) q.at text
 calls_after w p channel first q s tuned i text e stops =

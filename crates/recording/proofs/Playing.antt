@@ -93,12 +93,12 @@ module _ (bytes : List ℕ) where
       }
 
   -- how far a player of these bytes has come
-  pub record Playing_by (p : Player) : Type 0 where
+  pub record PlayingBy (p : Player) : Type 0 where
     pub same : p.bytes.now ≡ bytes
     pub playing : Playing p.at (string_bytes p.lines)
 
   -- an opening and the calls after it are played
-  pub after_by : (p q r : Player) (channel : Channel) (kind : Kind) → Playing_by p → Read channel kind p q → PlaysCalls (weighing kind) channel q r → Playing_by r
+  pub after_by : (p q r : Player) (channel : Channel) (kind : Kind) → PlayingBy p → Read channel kind p q → PlaysCalls (weighing kind) channel q r → PlayingBy r
   after_by p q r channel kind i o h =
       let After = CallsAfter (weighing kind) in
       let line = written (opened_line channel) in
@@ -116,7 +116,7 @@ module _ (bytes : List ℕ) where
       }
 
   -- where no opening comes next, the lines with that of the fault are the whole
-  finished_so : (p : Player) → Playing_by p → ((s : Said) → Next false (rest p) s → ⊥) → (more : Bool) → nat_lt p.at (length bytes) ≡ more →
+  finished_so : (p : Player) → PlayingBy p → ((s : Said) → Next false (rest p) s → ⊥) → (more : Bool) → nat_lt p.at (length bytes) ≡ more →
       Played bytes (string_bytes p.lines ++ cond more (fault_written (Some p.at)) [])
   finished_so p i none true e =
       playing_fault p.at (string_bytes p.lines) i.playing (ltb-true p.at (length bytes) e)
@@ -125,7 +125,7 @@ module _ (bytes : List ℕ) where
       subst (λ t. Played bytes t) (sym (append-nil (string_bytes p.lines)))
       (playing_done p.at (string_bytes p.lines) i.playing (ltb-false p.at (length bytes) e))
 
-  pub finished_by : (p : Player) → Playing_by p → ((s : Said) → Next false (rest p) s → ⊥) → Played bytes (finished p)
+  pub finished_by : (p : Player) → PlayingBy p → ((s : Said) → Next false (rest p) s → ⊥) → Played bytes (finished p)
   finished_by p i none =
       subst (λ b. Played bytes (string_bytes p.lines ++ cond (nat_lt p.at (length b)) (fault_written (Some p.at)) [])) (sym i.same)
       (finished_so p i none (nat_lt p.at (length bytes)) refl)

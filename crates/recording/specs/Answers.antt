@@ -19,11 +19,13 @@ module _ (w : Weighing) (opened : Receiver w.C Laying w.S w.P) where
   -- the memory lent is what is needed, and that is enough
   pub record Enough (m : Memory w.S w.P) : Type 0 where
     pub room : sizes m ≡ needed opened.format
+    -- no call is refused for want of memory
     pub rules : first (memory_rules {C = w.C} {S = w.S} {P = w.P} opened.format (sizes m)) ≡ None
 
   -- the history of the receiver opened goes on by the calls that these records make, and these lines tell the answers
   pub data Goes : (r : Receiver w.C Laying w.S w.P) (m : Memory w.S w.P) (bursts : List (List w.S)) →
       History w.kind laying_line opened r m.ring bursts → List Said → List (List ℕ) → Type 0 where
+    -- no more records
     ends : (r : Receiver w.C Laying w.S w.P) (m : Memory w.S w.P) (bursts : List (List w.S))
         (h : History w.kind laying_line opened r m.ring bursts) → Enough m → Goes r m bursts h [] []
     -- a burst heard, the samples being those that its bytes spell: the answer is sound
@@ -46,11 +48,13 @@ module _ (w : Weighing) (opened : Receiver w.C Laying w.S w.P) where
         Goes r' m' (counting w.kind laying_line reply (silence w.kind laying_line r.format) bursts)
         (missed r r' bursts m m' reply h called) records lines →
         Goes r m bursts h (misses ∷ records) (answer_line w.figures opened.format.message reply m'.block ∷ lines)
+    -- a burst stolen: its line tells what the receiver answers
     stealing : (r r' : Receiver w.C Laying w.S w.P) (m : Memory w.S w.P) (bursts : List (List w.S))
         (h : History w.kind laying_line opened r m.ring bursts) (reply : Result ℕ (Refusal w.C w.S w.P))
         (called : Steals w.kind laying_line r reply r') (records : List Said) (lines : List (List ℕ)) →
         Goes r' m bursts (stole r r' m.ring bursts reply h called) records lines →
         Goes r m bursts h (steals ∷ records) (stolen_line reply ∷ lines)
+    -- a restart: the bursts counted are forgotten
     restarting : (r r' : Receiver w.C Laying w.S w.P) (m : Memory w.S w.P) (bursts : List (List w.S))
         (h : History w.kind laying_line opened r m.ring bursts)
         (called : Restarts w.kind laying_line r r') (records : List Said) (lines : List (List ℕ)) →
@@ -59,7 +63,9 @@ module _ (w : Weighing) (opened : Receiver w.C Laying w.S w.P) where
 
 -- each opening begins one history of a receiver for its channel, which the records up to the next opening go on with
 pub data Tells : List Said → List (List ℕ) → Type 0 where
+  -- no records, no lines
   silent : Tells [] []
+  -- an opening, the calls that follow it, and what the next opening begins
   opening : (channel : Channel) (kind : Kind) (r : Receiver (weighing kind).C Laying (weighing kind).S (weighing kind).P)
       (m : Memory (weighing kind).S (weighing kind).P) (since rest : List Said) (lines more : List (List ℕ)) →
       Tuned (weighing kind).kind channel r →
@@ -69,8 +75,12 @@ pub data Tells : List Said → List (List ℕ) → Type 0 where
 -- the text that playing the bytes makes: the lines of the records that they spell, and that of the fault that stops reading, if there is one
 pub record Played (bytes made : List ℕ) : Type 0 where
   pub records : List Said
+  -- where the bytes stop spelling records, if they do before their end
   pub fault : Option ℕ
   pub lines : List (List ℕ)
+  -- these are the records that the bytes spell, from the first byte on and with no channel opened
   pub spelt : Spells false 0 bytes records fault
+  -- there is one line for each record, and it tells the answer
   pub told : Tells records lines
+  -- the text is those lines, and that of the fault
   pub shown : made ≡ all_written lines ++ fault_written fault

@@ -46,6 +46,7 @@ samples_in restarts = 0
 -- the bytes begin with the record, which has no more than 1,024 samples
 pub record Begins (bytes : List ℕ) (s : Said) : Type 0 where
   pub short : samples_in s ≤ 1024
+  -- as many of the bytes as it takes are its own
   pub spelt : take (length (spelling s)) bytes ≡ spelling s
 
 -- what reading the bytes answers: the one record that they begin with and how many bytes it takes, or nothing where they begin with none

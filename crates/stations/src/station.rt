@@ -74,13 +74,12 @@ impl<C: Cost> Station<C> {
         } = self;
         let ring: &mut [C::Sample] = ring;
         let costs: &mut [Option<C::Plain>] = costs;
-        // Named apart, so that the edit that must be refused finds its line.
-        let record: &mut [u8] = paths;
+        let paths: &mut [u8] = paths;
         let block: &mut [u8] = block;
         let mut memory = Memory {
             ring,
             costs,
-            paths: record,
+            paths,
             block,
         };
         receiver.miss(&mut memory)

@@ -1,6 +1,6 @@
 // The laying of a channel is a line: what it holds answers for it.
 ghost use Rattle.channels.specs.Layings.{laid_coded, laid_sent, laid_suited, laid_place};
-ghost use Rattle.channels.specs.LayingsLemmas as Layings;
+ghost use Rattle.channels.specs.LayingsLemmas as lemmas;
 
 use super::Laying;
 use line::laying::Line;
@@ -14,13 +14,13 @@ impl Line for Laying {
 
     ghost place = { laid_place };
 
-    ghost within = { Layings.within };
+    ghost within = { lemmas.within };
 
-    ghost apart = { Layings.apart };
+    ghost apart = { lemmas.apart };
 
-    ghost filled = { Layings.filled };
+    ghost filled = { lemmas.filled };
 
-    ghost ended = { Layings.ended };
+    ghost ended = { lemmas.ended };
 
     // Each method asks the line that is held, which has a type of its own.
     fn coded_bits(&self) -> usize {

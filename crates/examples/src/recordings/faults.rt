@@ -1,7 +1,6 @@
 // Every reason for refusal 12: its line tells where the record's mark stands, and nothing is read after it.
-use super::{Part, each_prints, plays};
+use super::{Part, each_prints, long_burst, plays};
 use crate::bursts::DATA24_0;
-use crate::played::long_burst;
 use std::test::*;
 
 const FIRST: [(&[u8], &str); 4] = [

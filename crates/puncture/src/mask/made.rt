@@ -1,6 +1,6 @@
 // How a mask is made of its tables.
 ghost use Rattle.std.specs.Prelude.{◌≡◌, true};
-ghost use Rattle.puncture.specs.Laying.{Lays};
+ghost use Rattle.puncture.specs.MaskLine.{Lays};
 ghost use Rattle.puncture.specs.Masks.{lent_masks, sound, pattern};
 ghost use Rattle.puncture.specs.Strips.{pattern_of};
 ghost use Rattle.puncture.specs.declared.mask.Mask.TheVariants.{Sound};

@@ -30,7 +30,7 @@ impl Strip {
     }
 
     // The number of an entry among the kept ones, after those kept before the strip.
-    #[tactic(auto, using(crate::specs::Masking::entries))]
+    #[tactic(auto, using(crate::specs::Masking::numbering))]
     pub(crate) fn number_of(&self, at: usize, before: usize) -> Option<(usize, bool)>
         requires { before + self.now.length < 2 ^ 64 }
         ensures { result ≡ raised before (numbered (held self.now) at) }

@@ -1,4 +1,4 @@
--- Which coded bits of a block are sent, and in which order.
+-- The unpunctured line: every coded bit is sent, in coded order.
 use Rattle.std.specs.Prelude.{ℕ, Bool, false, cond, Some, None, Option, nat_lt}
 
 -- every one of the bits at its own place, none turned over

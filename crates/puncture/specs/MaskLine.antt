@@ -17,6 +17,8 @@ mask_line = record {
 -- a mask lays a block out by these tables
 pub record Lays (m : Masks) (r : Mask) : Type 0 where
   pub coded : mask_line.coded r ≡ coded_of m
+  -- it suits where they have no fault
   pub suited : mask_line.suited r ≡ sound m
   pub sent : mask_line.sent r ≡ kept (pattern m)
+  -- a bit kept goes to the place of its number among those kept
   pub places : (j : ℕ) → mask_line.place r j ≡ numbered (pattern m) j
