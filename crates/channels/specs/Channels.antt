@@ -1,7 +1,6 @@
 -- The channels: what each one sets, and what a receiver opened for it is.
 use Rattle.std.specs.Prelude.{◌≡◌, ℕ, ◌*◌, Bool, true, Option}
 use Rattle.cost.specs.declared.kind.Cost as cost
-use Rattle.line.specs.declared.laying.Line as line
 use Rattle.line.specs.Interleaver.{interleaved}
 use Rattle.line.specs.Unpunctured.{in_order}
 use Rattle.puncture.specs.Patterns.{numbered}

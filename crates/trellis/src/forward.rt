@@ -1,6 +1,6 @@
 // The forward pass of the trellis: the path that each register keeps, step by step.
 ghost use Rattle.std.specs.Prelude.{◌≡◌, ℕ, suc, ◌+◌, ◌*◌, ◌/◌, ◌^◌, ◌<◌, ◌≤◌, true, false, length, Some, None, slice_index, slice_index_or};
-ghost use Rattle.trellis.specs.Bits.{xor, bit_of};
+ghost use Rattle.trellis.specs.Bits.{xor};
 ghost use Rattle.trellis.specs.Cells.{Cells, Marked, MarkedBelow, cost_kept, kept_at};
 ghost use Rattle.trellis.specs.Codes.{rows_of};
 ghost use Rattle.trellis.specs.Met.{read};

@@ -1,5 +1,5 @@
 // What happens to the bursts on their way.
-use cost::kind::Cost;
+use crate::voiced::Voiced;
 use std::fmt;
 
 #[derive(Clone, Copy)]
@@ -30,6 +30,11 @@ fn step(n: usize, k: usize) -> usize {
     k.saturating_add(n.saturating_mul(7))
 }
 
+// How strongly a bit is heard in noise, from 1 to 127.
+fn strength(step: usize) -> u8 {
+    1 + (step % 127) as u8
+}
+
 impl fmt::Display for Condition {
     fn fmt<W: fmt::Write>(&self, f: &mut fmt::Formatter<W>) -> fmt::Result {
         f.write_str(match self {
@@ -47,10 +52,11 @@ impl Condition {
     }
 
     // How a bit sent at place k of burst n is heard.
-    pub(crate) fn heard<C: Cost>(self, n: usize, k: usize, bit: bool) -> C::Sample {
+    pub(crate) fn heard<C: Voiced>(self, n: usize, k: usize, bit: bool) -> C::Sample {
+        let step = step(n, k);
         match self {
-            Condition::Noise if step(n, k) % NOISE == 0 => C::clean_sample(!bit),
-            Condition::Erasures if step(n, k) % ERASURES == 0 => C::NOTHING,
+            Condition::Noise => C::sample(bit != (step % NOISE == 0), strength(step)),
+            Condition::Erasures if step % ERASURES == 0 => C::NOTHING,
             _ => C::clean_sample(bit),
         }
     }

@@ -1,8 +1,9 @@
 // Decoding the bursts of one channel, and printing a line for each answer.
-use crate::condition::{CONDITIONS, Condition};
+use crate::condition::CONDITIONS;
 use crate::hearing::take;
-use crate::trial::{Named, Trial};
+use crate::trial::Trial;
 use crate::vector::Vector;
+use crate::voiced::Voiced;
 use channels::channel::Channel;
 use link::refusal::Refusal;
 use link::report::Answer;
@@ -11,7 +12,7 @@ use recording::printed::{Bits, Line};
 use stations::station::Station;
 
 // Decodes the channel's bursts under each condition.
-pub(crate) fn decode<C: Figured + Named>(
+pub(crate) fn decode<C: Figured + Voiced>(
     rt: &HostRuntime,
     name: &str,
     channel: Channel,
@@ -28,7 +29,7 @@ pub(crate) fn decode<C: Figured + Named>(
     Ok(())
 }
 
-fn decode_under<C: Figured>(
+fn decode_under<C: Figured + Voiced>(
     rt: &HostRuntime,
     trial: Trial<'_>,
     channel: Channel,

@@ -1,13 +1,13 @@
 // The bursts as they are heard under a condition.
 use crate::condition::Condition;
-use cost::kind::Cost;
+use crate::voiced::Voiced;
 use link::refusal::Refusal;
 use link::report::Answer;
 use stations::station::Station;
 use std::alloc::{AllocError, Global};
 
 // The samples of a burst given as figures.
-fn samples<C: Cost>(
+fn samples<C: Voiced>(
     heap: Global,
     condition: Condition,
     n: usize,
@@ -21,7 +21,7 @@ fn samples<C: Cost>(
 }
 
 // Burst n is heard or missed.
-pub(crate) fn take<C: Cost>(
+pub(crate) fn take<C: Voiced>(
     heap: Global,
     station: &mut Station<C>,
     condition: Condition,

@@ -6,6 +6,7 @@ mod decoding;
 mod hearing;
 mod trial;
 mod vector;
+mod voiced;
 
 use cost::count::Count;
 use cost::ranked::Ranked;

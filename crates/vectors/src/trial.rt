@@ -1,21 +1,6 @@
 // One way of decoding a channel's bursts, as it stands before each answer.
 use crate::condition::Condition;
-use cost::count::Count;
-use cost::ranked::Ranked;
 use std::fmt;
-
-// A kind of cost by its name.
-pub(crate) trait Named {
-    const NAME: &'static str;
-}
-
-impl Named for Count {
-    const NAME: &'static str = "count";
-}
-
-impl Named for Ranked {
-    const NAME: &'static str = "ranked";
-}
 
 #[derive(Clone, Copy)]
 pub(crate) struct Trial<'a> {

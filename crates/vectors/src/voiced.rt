@@ -1,0 +1,28 @@
+// How a kind of cost hears a bit of some strength.
+use cost::count::Count;
+use cost::kind::Cost;
+use cost::ranked::Ranked;
+
+pub(crate) trait Voiced: Cost {
+    const NAME: &'static str;
+
+    // The sample of a bit with a strength of 1 to 127, where the kind knows strength.
+    fn sample(bit: bool, strength: u8) -> Self::Sample;
+}
+
+impl Voiced for Count {
+    const NAME: &'static str = "count";
+
+    fn sample(bit: bool, _: u8) -> u8 {
+        bit as u8
+    }
+}
+
+impl Voiced for Ranked {
+    const NAME: &'static str = "ranked";
+
+    fn sample(bit: bool, strength: u8) -> i8 {
+        let level = i8::try_from(strength).unwrap_or(i8::MAX);
+        if bit { -level } else { level }
+    }
+}

@@ -1,0 +1,287 @@
+"""A coder and decoder written from the rules in docs/, apart from the code of this repository.
+
+    python3 tools/reference.py play < crates/readburst/stdin       what readburst is to print of a recording
+    python3 tools/reference.py vectors < crates/vectors/stdin      what vectors is to print of an outside encoder's bursts
+
+The stored outputs of both programs were made so. `vectors` also holds each burst against the one that this coder makes, and names on
+standard error each block that is not the message sent, or not the only one of the least cost.
+"""
+
+import sys
+
+# Taps by the age of the bit, the newest 0.
+HALF = [(0, 3, 4), (0, 1, 2, 4)]
+FIFTH = [(0, 2, 4), (0, 1, 3, 4), (0, 1, 2, 3, 4), (0, 2, 3, 4), (0, 1, 2, 4)]
+COLUMNS = [0, 5, 2, 7, 4, 1, 6, 3]
+LOADED = (0, 1, 3, 6, 8, 10, 11, 14)
+GENERATOR = (16, 12, 5, 0)
+
+
+class Channel:
+    def __init__(self, rows, memory, message, parity, depth, masks, scrambled):
+        self.rows, self.memory, self.depth = rows, memory, depth
+        self.message, self.parity = message, parity
+        self.protected = message + parity
+        self.steps = self.protected + memory
+        kept = [j for j, keep in enumerate(self.pattern(masks)) if keep]
+        self.burst = len(kept)
+        turns = masking(self.burst) if scrambled else [0] * self.burst
+        # Coded bit to place and turn.
+        self.places = {}
+        for number, j in enumerate(kept):
+            place = number // 8 + self.burst // 8 * COLUMNS[number % 8]
+            self.places[j] = (place, turns[place])
+
+    def pattern(self, masks):
+        whole = [[1] * self.steps] * len(self.rows)
+        if masks is None:
+            return by_columns(whole)
+        prefix, middle, times, suffix = [None if m is None else m if isinstance(m, int) else table(m) for m in masks]
+        before = by_columns(prefix) + by_columns(middle) * times
+        after = by_columns(suffix)
+        return before + [1] * (len(self.rows) * self.steps - len(before) - len(after)) + after
+
+    def coded(self, bits):
+        run = list(bits) + [0] * self.memory
+        return [sum(run[t - age] for age in row if age <= t) % 2 for t in range(self.steps) for row in self.rows]
+
+    def laid(self, bits):
+        """The bits of a block at their places, turned."""
+        coded = self.coded(bits)
+        burst = [None] * self.burst
+        for j, (place, turn) in self.places.items():
+            burst[place] = coded[j] ^ turn
+        return burst
+
+
+def table(rows):
+    return [[int(entry) for entry in row] for row in rows.split()]
+
+
+def by_columns(rows):
+    return [entry for column in zip(*rows) for entry in column]
+
+
+def masking(length):
+    register = [int(i in LOADED) for i in range(15)]
+    values = []
+    for _ in range(length):
+        values.append(register[0] ^ register[14])
+        register = [values[-1]] + register[:14]
+    return values
+
+
+def parity(message):
+    """The remainder of the message times D^16, its highest power first."""
+    rest = list(message) + [0] * 16
+    for i in range(len(message)):
+        if rest[i]:
+            for power in GENERATOR:
+                rest[i + 16 - power] ^= 1
+    return rest[-16:]
+
+
+CHANNELS = [
+    Channel([(0, 1, 2), (0, 2)], 2, 6, 0, 1, None, False),
+    Channel(HALF, 4, 192, 16, 1, None, True),
+    Channel(FIFTH, 4, 144, 0, 3, ("111 101 101 010 110", "111 111 101 111 110", 41, "111 101 101 010 011"), True),
+    Channel(HALF, 4, 480, 0, 3, ("11111 01011", "011 101", 158, "11111 11010"), True),
+]
+
+
+class Count:
+    name, nothing, zero = "count", 2, 0
+
+    def of_byte(byte):
+        return byte
+
+    def fit(sample):
+        return sample <= 2
+
+    def heard(bit, strength):
+        return bit
+
+    def grown(cost, sample, bit):
+        return min(cost + (sample == 1 - bit), 65535)
+
+    def shown(cost):
+        return str(cost)
+
+
+class Ranked:
+    name, nothing, zero = "ranked", 0, (0, 0)
+
+    def of_byte(byte):
+        return byte - 256 * (byte > 127)
+
+    def fit(sample):
+        return sample >= -127
+
+    def heard(bit, strength):
+        return -strength if bit else strength
+
+    def grown(cost, sample, bit):
+        if not (sample > 0 if bit else sample < 0):
+            return cost
+        count, strength = cost
+        return (count + 1, strength + abs(sample)) if count < 65535 else (65535, 127 * 65535)
+
+    def shown(cost):
+        return "%d/%d" % cost
+
+
+def decoded(channel, kind, due):
+    """The path of the trellis rule without its closing zeros, its cost, and how many paths cost as little."""
+    kept = {(0,) * channel.memory: (kind.zero, (), 1)}
+    for t in range(channel.steps):
+        met = [channel.places.get(len(channel.rows) * t + i) for i in range(len(channel.rows))]
+        after = {}
+        # Of two registers that become one, that which drops a 0 comes first, and stays unless the other is cheaper.
+        for register in sorted(kept, key=lambda register: register[-1]):
+            cost, path, ways = kept[register]
+            for bit in (0, 1) if t < channel.protected else (0,):
+                window = (bit,) + register
+                grown = cost
+                for row, at in zip(channel.rows, met):
+                    if at:
+                        place, turn = at
+                        grown = kind.grown(grown, due[place], sum(window[age] for age in row) % 2 ^ turn)
+                other = after.get(window[:-1])
+                if other is None or grown < other[0]:
+                    after[window[:-1]] = (grown, path + (bit,), ways)
+                elif grown == other[0]:
+                    after[window[:-1]] = other[:2] + (other[2] + ways,)
+        kept = after
+    cost, path, ways = kept[(0,) * channel.memory]
+    return list(path[: channel.protected]), cost, ways
+
+
+class Receiver:
+    def __init__(self, channel, kind):
+        self.channel, self.kind, self.bursts = channel, kind, []
+        self.ways = None
+
+    def hear(self, samples):
+        if len(samples) != self.channel.burst:
+            return "X 6 %d" % len(samples)
+        for place, sample in enumerate(samples):
+            if not self.kind.fit(sample):
+                return "X 7 %d" % place
+        return self.count(samples)
+
+    def miss(self):
+        return self.count([self.kind.nothing] * self.channel.burst)
+
+    def stolen(self):
+        return "X 8 0" if self.channel.depth == 1 else "S %d" % len(self.bursts)
+
+    def restart(self):
+        self.bursts = []
+        return "R"
+
+    def count(self, samples):
+        self.bursts.append(samples)
+        block = len(self.bursts) - self.channel.depth
+        if block < 0:
+            return "W %d" % (len(self.bursts) - 1)
+        due = [self.bursts[block + place % self.channel.depth][place] for place in range(self.channel.burst)]
+        path, cost, self.ways = decoded(self.channel, self.kind, due)
+        message = path[: self.channel.message]
+        if self.channel.parity and path[self.channel.message :] != parity(message):
+            return "X 11 0"
+        heard = sum(sample != self.kind.nothing for sample in due)
+        return "B %d %s %d %s" % (block, self.kind.shown(cost), heard, "".join(map(str, message)))
+
+
+def record(data, at):
+    """The mark at an offset, what belongs to it, and the length of both; nothing where no whole record begins."""
+    mark, rest = data[at : at + 2], data[at + 2 :]
+    if mark in (b"MI", b"ST", b"RE"):
+        return mark, None, 2
+    if mark == b"OP" and len(rest) >= 2 and rest[0] < 4 and rest[1] < 2:
+        return mark, rest[:2], 4
+    if mark == b"HE" and len(rest) >= 2:
+        count = int.from_bytes(rest[:2], "big")
+        if count <= 1024 and len(rest) >= 2 + count:
+            return mark, rest[2 : 2 + count], 4 + count
+    return None
+
+
+def play(data):
+    at, receiver = 0, None
+    while at < len(data):
+        found = record(data, at)
+        if found is None or (receiver is None and found[0] != b"OP"):
+            yield "X 12 %d" % at
+            return
+        mark, given, taken = found
+        if mark == b"OP":
+            receiver = Receiver(CHANNELS[given[0]], (Count, Ranked)[given[1]])
+            yield "O %d" % given[0]
+        elif mark == b"HE":
+            yield receiver.hear([receiver.kind.of_byte(byte) for byte in given])
+        else:
+            yield {b"MI": receiver.miss, b"ST": receiver.stolen, b"RE": receiver.restart}[mark]()
+        at += taken
+
+
+NAMES = {"BCCH": 1, "DATA24": 2, "DATA96": 3}
+
+
+def heard_under(condition, kind, n, burst):
+    """Burst n as it is heard under a condition; nothing where it is lost."""
+    if condition == "lost" and n == 5:
+        return None
+    steps = [k + 7 * n for k in range(len(burst))]
+    if condition == "noise":
+        return [kind.heard(bit ^ (step % 37 == 0), 1 + step % 127) for step, bit in zip(steps, burst)]
+    clean = [kind.heard(bit, 127) for bit in burst]
+    if condition == "erasures":
+        return [kind.nothing if step % 6 == 0 else sample for step, sample in zip(steps, clean)]
+    return clean
+
+
+def check_bursts(name, channel, messages, bursts):
+    blocks = [channel.laid(message + (parity(message) if channel.parity else [])) for message in messages]
+    nothing = [0] * channel.burst
+    for place, turn in channel.places.values():
+        nothing[place] = turn
+    for n, burst in enumerate(bursts):
+        made = []
+        for place in range(channel.burst):
+            block = n - place % channel.depth
+            made.append(blocks[block][place] if block >= 0 else nothing[place])
+        if made != burst:
+            sys.exit("%s burst %d is not that of the messages" % (name, n))
+
+
+def vectors(lines):
+    bits = lambda word: [int(figure) for figure in word]
+    sent = [line.split() for line in lines]
+    for name, number in NAMES.items():
+        channel = CHANNELS[number]
+        messages = [bits(line[1]) for line in sent if line[0] == name]
+        bursts = [bits(line[2]) for line in sent if line[0] == name]
+        check_bursts(name, channel, messages, bursts)
+        for kind in (Count, Ranked):
+            for condition in ("clean", "noise", "erasures", "lost"):
+                receiver = Receiver(channel, kind)
+                for n, burst in enumerate(bursts):
+                    heard = heard_under(condition, kind, n, burst)
+                    line = receiver.miss() if heard is None else receiver.hear(heard)
+                    yield "%s %s %s %s" % (name, kind.name, condition, line)
+                    if line[0] == "B":
+                        told = line.split()
+                        if bits(told[4]) != messages[int(told[1])] or receiver.ways != 1:
+                            print("not the only block: %s %s %s %s" % (name, kind.name, condition, told[1]), file=sys.stderr)
+
+
+if __name__ == "__main__":
+    if sys.argv[1:] == ["play"]:
+        made = play(sys.stdin.buffer.read())
+    elif sys.argv[1:] == ["vectors"]:
+        made = vectors(sys.stdin.read().splitlines())
+    else:
+        sys.exit(__doc__)
+    for line in made:
+        print(line)
