@@ -3,7 +3,7 @@
     python3 tools/reference.py play < crates/readburst/stdin       what readburst is to print of a recording
     python3 tools/reference.py vectors < crates/vectors/stdin      what vectors is to print of an outside encoder's bursts
 
-The stored outputs of both programs were made so. `vectors` also holds each burst against the one that this coder makes, and names on
+The stored outputs of both programs are what it makes. `vectors` also holds each burst against the one that this coder makes, and names on
 standard error each block that is not the message sent, or not the only one of the least cost.
 """
 
@@ -33,10 +33,8 @@ class Channel:
             self.places[j] = (place, turns[place])
 
     def pattern(self, masks):
-        whole = [[1] * self.steps] * len(self.rows)
-        if masks is None:
-            return by_columns(whole)
-        prefix, middle, times, suffix = [None if m is None else m if isinstance(m, int) else table(m) for m in masks]
+        """Which coded bits are kept: what the masks do not cover lies before the suffix, and is kept whole."""
+        prefix, middle, times, suffix = masks
         before = by_columns(prefix) + by_columns(middle) * times
         after = by_columns(suffix)
         return before + [1] * (len(self.rows) * self.steps - len(before) - len(after)) + after
@@ -54,12 +52,8 @@ class Channel:
         return burst
 
 
-def table(rows):
-    return [[int(entry) for entry in row] for row in rows.split()]
-
-
-def by_columns(rows):
-    return [entry for column in zip(*rows) for entry in column]
+def by_columns(table):
+    return [int(entry) for column in zip(*table.split()) for entry in column]
 
 
 def masking(length):
@@ -81,9 +75,10 @@ def parity(message):
     return rest[-16:]
 
 
+# The bench, the BCCH, data 2.4 and data 9.6.
 CHANNELS = [
-    Channel([(0, 1, 2), (0, 2)], 2, 6, 0, 1, None, False),
-    Channel(HALF, 4, 192, 16, 1, None, True),
+    Channel([(0, 1, 2), (0, 2)], 2, 6, 0, 1, ("", "", 0, ""), False),
+    Channel(HALF, 4, 192, 16, 1, ("", "", 0, ""), True),
     Channel(FIFTH, 4, 144, 0, 3, ("111 101 101 010 110", "111 111 101 111 110", 41, "111 101 101 010 011"), True),
     Channel(HALF, 4, 480, 0, 3, ("11111 01011", "011 101", 158, "11111 11010"), True),
 ]
@@ -242,6 +237,7 @@ def heard_under(condition, kind, n, burst):
 
 
 def check_bursts(name, channel, messages, bursts):
+    """Holds each burst against what the messages send: places due to a block before the first have a 0, turned."""
     blocks = [channel.laid(message + (parity(message) if channel.parity else [])) for message in messages]
     nothing = [0] * channel.burst
     for place, turn in channel.places.values():
@@ -255,8 +251,11 @@ def check_bursts(name, channel, messages, bursts):
             sys.exit("%s burst %d is not that of the messages" % (name, n))
 
 
+def bits(word):
+    return [int(figure) for figure in word]
+
+
 def vectors(lines):
-    bits = lambda word: [int(figure) for figure in word]
     sent = [line.split() for line in lines]
     for name, number in NAMES.items():
         channel = CHANNELS[number]
