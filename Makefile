@@ -1,8 +1,8 @@
-# make run plays the stored recording; make test is the gate.
+# make run plays the stored recording; make test is the gate; make reference makes the stored outputs anew, by Python 3, and compares.
 READBURST = crates/readburst/out/readburst
 RECORDING ?= crates/readburst/stdin
 
-.PHONY: run test
+.PHONY: run test reference
 
 run: $(READBURST)
 	@$(READBURST) < $(RECORDING)
@@ -13,3 +13,7 @@ $(READBURST): $(shell find crates -path '*/out' -prune -o \( -name '*.rt' -o -na
 
 test:
 	.ci/run
+
+reference:
+	python3 tools/reference.py play < crates/readburst/stdin | cmp - crates/readburst/stdout
+	python3 tools/reference.py vectors < crates/vectors/stdin | cmp - crates/vectors/stdout

@@ -3,8 +3,9 @@
     python3 tools/reference.py play < crates/readburst/stdin       what readburst is to print of a recording
     python3 tools/reference.py vectors < crates/vectors/stdin      what vectors is to print of an outside encoder's bursts
 
-The stored outputs of both programs are what it makes. `vectors` also holds each burst against the one that this coder makes, and names on
-standard error each block that is not the message sent, or not the only one of the least cost.
+The stored outputs of both programs are what it makes. `vectors` also holds each burst against the one that this coder makes, and says on
+standard error of each block whether it is not the message sent, not the only one of the least cost, or told with a cost or a heard
+count that are not those of what was done to the burst.
 """
 
 import sys
@@ -15,10 +16,12 @@ FIFTH = [(0, 2, 4), (0, 1, 3, 4), (0, 1, 2, 3, 4), (0, 2, 3, 4), (0, 1, 2, 4)]
 COLUMNS = [0, 5, 2, 7, 4, 1, 6, 3]
 LOADED = (0, 1, 3, 6, 8, 10, 11, 14)
 GENERATOR = (16, 12, 5, 0)
+MOST_BURSTS = 1000000
 
 
 class Channel:
     def __init__(self, rows, memory, message, parity, depth, masks, scrambled):
+        """The masks are a prefix, a middle, how often the middle is applied, and a suffix, each table by rows."""
         self.rows, self.memory, self.depth = rows, memory, depth
         self.message, self.parity = message, parity
         self.protected = message + parity
@@ -87,18 +90,23 @@ CHANNELS = [
 class Count:
     name, nothing, zero = "count", 2, 0
 
+    @staticmethod
     def of_byte(byte):
         return byte
 
+    @staticmethod
     def fit(sample):
         return sample <= 2
 
+    @staticmethod
     def heard(bit, strength):
         return bit
 
+    @staticmethod
     def grown(cost, sample, bit):
         return min(cost + (sample == 1 - bit), 65535)
 
+    @staticmethod
     def shown(cost):
         return str(cost)
 
@@ -106,21 +114,26 @@ class Count:
 class Ranked:
     name, nothing, zero = "ranked", 0, (0, 0)
 
+    @staticmethod
     def of_byte(byte):
         return byte - 256 * (byte > 127)
 
+    @staticmethod
     def fit(sample):
         return sample >= -127
 
+    @staticmethod
     def heard(bit, strength):
         return -strength if bit else strength
 
+    @staticmethod
     def grown(cost, sample, bit):
         if not (sample > 0 if bit else sample < 0):
             return cost
         count, strength = cost
         return (count + 1, strength + abs(sample)) if count < 65535 else (65535, 127 * 65535)
 
+    @staticmethod
     def shown(cost):
         return "%d/%d" % cost
 
@@ -154,9 +167,12 @@ def decoded(channel, kind, due):
 class Receiver:
     def __init__(self, channel, kind):
         self.channel, self.kind, self.bursts = channel, kind, []
+        # Of the block told last, how many runs cost as little.
         self.ways = None
 
     def hear(self, samples):
+        if len(self.bursts) == MOST_BURSTS:
+            return "X 5 0"
         if len(samples) != self.channel.burst:
             return "X 6 %d" % len(samples)
         for place, sample in enumerate(samples):
@@ -165,6 +181,8 @@ class Receiver:
         return self.count(samples)
 
     def miss(self):
+        if len(self.bursts) == MOST_BURSTS:
+            return "X 5 0"
         return self.count([self.kind.nothing] * self.channel.burst)
 
     def stolen(self):
@@ -255,6 +273,28 @@ def bits(word):
     return [int(figure) for figure in word]
 
 
+def doubts(receiver, line, messages, bursts):
+    """What is not to be expected of a block told."""
+    if line[0] != "B":
+        return
+    _, block, cost, heard, message = line.split()
+    depth, kind = receiver.channel.depth, receiver.kind
+    expected, lost = kind.zero, 0
+    for place in range(receiver.channel.burst):
+        n = int(block) + place % depth
+        sample = receiver.bursts[n][place]
+        expected = kind.grown(expected, sample, bursts[n][place])
+        lost += sample == kind.nothing
+    if bits(message) != messages[int(block)]:
+        yield "not the message sent"
+    elif cost != kind.shown(expected):
+        yield "a cost that is not that of the message sent"
+    if receiver.ways != 1:
+        yield "not the only block of its cost"
+    if int(heard) != receiver.channel.burst - lost:
+        yield "a heard count that is not that of the places heard"
+
+
 def vectors(lines):
     sent = [line.split() for line in lines]
     for name, number in NAMES.items():
@@ -269,10 +309,8 @@ def vectors(lines):
                     heard = heard_under(condition, kind, n, burst)
                     line = receiver.miss() if heard is None else receiver.hear(heard)
                     yield "%s %s %s %s" % (name, kind.name, condition, line)
-                    if line[0] == "B":
-                        told = line.split()
-                        if bits(told[4]) != messages[int(told[1])] or receiver.ways != 1:
-                            print("not the only block: %s %s %s %s" % (name, kind.name, condition, told[1]), file=sys.stderr)
+                    for doubt in doubts(receiver, line, messages, bursts):
+                        print("%s %s %s %s: %s" % (name, kind.name, condition, line.split()[1], doubt), file=sys.stderr)
 
 
 if __name__ == "__main__":

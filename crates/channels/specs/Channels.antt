@@ -24,8 +24,9 @@ pub record Terms : Type 0 where
   pub message : ℕ
   pub parity : ℕ
   pub depth : ℕ
-  -- the coded bits of a block, and the bits of a burst
+  -- how many coded bits a block has
   pub coded : ℕ
+  -- how many bits a burst has
   pub burst : ℕ
   -- where coded bit j goes, and whether it is turned over there
   pub place : ℕ → Option (ℕ × Bool)
@@ -98,10 +99,12 @@ pub record Openable (p : Proposal Laying) : Type 0 where
 pub record Proposes (channel : Channel) (p : Proposal Laying) : Type 0 where
   -- its code and lengths are the channel's
   pub asks : p ≡ asked (terms channel) p.line
-  -- its line suits, and lays as many bits in as many places, each where the channel sets
   pub suited : laying_line.suited p.line ≡ true
+  -- its line lays as many coded bits
   pub coded : laying_line.coded p.line ≡ (terms channel).coded
+  -- in as many places
   pub burst : laying_line.sent p.line ≡ (terms channel).burst
+  -- each where the channel sets
   pub places : (j : ℕ) → laying_line.place p.line j ≡ (terms channel).place j
 
 -- a receiver opened for a channel
@@ -109,7 +112,9 @@ pub record Tuned {C S P : Type 0} (k : cost.Ghosts C S P) (channel : Channel) (r
   pub line : Laying
   -- it was opened with the channel's code and lengths and this line; every history of it is sound
   pub opened : Opened k laying_line (asked (terms channel) line) r
-  -- the line lays as many bits in as many places, each where the channel sets
+  -- the line lays as many coded bits
   pub coded : laying_line.coded line ≡ (terms channel).coded
+  -- in as many places
   pub burst : laying_line.sent line ≡ (terms channel).burst
+  -- each where the channel sets
   pub places : (j : ℕ) → laying_line.place line j ≡ (terms channel).place j

@@ -18,7 +18,7 @@ use Rattle.trellis.specs.Codes.{rows_of}
 use Rattle.trellis.specs.Coding.{coded_bit}
 use Rattle.trellis.specs.Paths.{cost_of}
 use Rattle.trellis.specs.Rule.{answer}
-use Rattle.channels.specs.Channels.{Terms, bench_terms, bcch_terms, data24_terms}
+use Rattle.channels.specs.Channels.{Terms, bench_terms, bcch_terms, data24_terms, data96_terms}
 use Rattle.channels.specs.Tables.{bench_code, data96_masks}
 
 -- the n bits that a number writes, the first one highest
@@ -70,10 +70,10 @@ pub record WorkedExamples : Type 0 where
   pub bcch_8 : moved bcch_terms.burst 8 ≡ 1
   -- place 423 goes to 211
   pub bcch_423 : moved bcch_terms.burst 423 ≡ 211
-  -- the interleaver of the data channels, of 648 bits: place 1 goes to 405
+  -- the interleaver of the data channels, both of 648 bits: place 1 goes to 405
   pub data_1 : moved data24_terms.burst 1 ≡ 405
   -- place 647 goes to 323
-  pub data_647 : moved data24_terms.burst 647 ≡ 323
+  pub data_647 : moved data96_terms.burst 647 ≡ 323
   -- the mask of the 9.6 kbit/s data channel: coded bit 0 goes to place 0
   pub mask_0 : numbered (pattern data96_masks) 0 ≡ Some (0, false)
   -- coded bit 1 is not sent

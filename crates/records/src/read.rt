@@ -8,7 +8,8 @@ use channels::channel::Channel;
 // The most samples that one record holds.
 const MOST: usize = 1024;
 
-// The record at the front of the bytes, and how many bytes it takes; none if they do not begin with a whole known record.
+// The record at the front of the bytes, and how many bytes it takes; none if they begin with none, with a cut one, or with one of more
+// than 1,024 samples.
 pub fn next_record<'a>(bytes: &'a [u8]) -> Option<(Record<'a>, usize)>
     ensures { Reads bytes.now result }
 {

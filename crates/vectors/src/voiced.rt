@@ -1,4 +1,4 @@
-// How a kind of cost hears a bit of some strength.
+// A kind of cost by its name, and how it hears a bit of some strength.
 use cost::count::Count;
 use cost::kind::Cost;
 use cost::ranked::Ranked;

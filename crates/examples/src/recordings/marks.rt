@@ -1,4 +1,4 @@
-// Every mark on every channel, with nothing heard.
+// Openings, bursts missed and stolen, and restarts on every channel; of the bench the documented example too.
 use super::{Part, each_prints, plays};
 use crate::bursts::{ZEROS_144, ZEROS_192, ZEROS_480};
 use std::test::*;
