@@ -32,7 +32,7 @@ fn apart(a: &[u8; 16], b: &[u8; 16]) -> usize {
 }
 
 // What a burst is answered, and the block memory after it.
-fn heard(burst: &[u8]) -> (Result<Answer<Count>, Refusal<Count>>, [u8; 6]) {
+fn heard(burst: &[u8]) -> (Result<Answer<Count>, Refusal<Report<Count>>>, [u8; 6]) {
     let mut receiver = Channel::Bench.open::<Count>();
     let mut block = [9; 6];
     let mut memory = Memory {

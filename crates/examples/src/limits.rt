@@ -78,7 +78,7 @@ fn a_million_bursts_are_counted(rt: HostRuntime) -> Result<(), Fail> {
 }
 
 // What a burst is answered where parity is asked for.
-fn with_parity(burst: &[u8], block: &mut [u8]) -> Result<Answer<Count>, Refusal<Count>> {
+fn with_parity(burst: &[u8], block: &mut [u8]) -> Result<Answer<Count>, Refusal<Report<Count>>> {
     let line = Unpunctured { bits: 18 };
     let proposal = Proposal {
         code: ROW,

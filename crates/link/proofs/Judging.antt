@@ -4,18 +4,19 @@ use Rattle.cost.specs.declared.kind.Cost as cost
 use Rattle.line.specs.declared.laying.Line as line
 use Rattle.link.specs.declared.receiver.Receiver.{Receiver}
 use Rattle.link.specs.declared.refusal.Refusal.{Refusal}
+use Rattle.link.specs.declared.report.Report.{Report}
 use Rattle.link.specs.Calls.{Memory, Reply, Counts, Judges}
 use Rattle.link.specs.Due.{stored}
 use Rattle.link.specs.Rules.{passed}
 
 module _ {C S P L : Type 0} (k : cost.Ghosts C S P) (l : line.Ghosts L) (samples : List S) (r : Receiver C L S P) (m : Memory S P) (reply : Reply k l) where
   -- where a check refuses, the call that hands its refusal on and does no more is refused
-  pub judges_refused : (rules : Option (Refusal C S P)) (x : Refusal C S P) → Err x ≡ passed rules → reply ≡ Err x → Judges k l rules samples r m reply r m
+  pub judges_refused : (rules : Option (Refusal (Report C S P))) (x : Refusal (Report C S P)) → Err x ≡ passed rules → reply ≡ Err x → Judges k l rules samples r m reply r m
   judges_refused None x e h = let z : ◌≡◌ {A = ℕ} 0 1 = cc in absurd (omega arith)
   judges_refused (Some y) x e h = let same : x ≡ y = cc in record { replied = h ∙ ap Err same; receiver = refl; memory = refl }
 
   -- where the checks pass, the call that stores the burst and then counts it takes it in
-  pub judges_taken : (rules : Option (Refusal C S P)) (ring : List S) (r' : Receiver C L S P) (m' : Memory S P) → Ok tt ≡ passed rules →
+  pub judges_taken : (rules : Option (Refusal (Report C S P))) (ring : List S) (r' : Receiver C L S P) (m' : Memory S P) → Ok tt ≡ passed rules →
       ring ≡ stored r.format r.counted samples m.ring → m'.ring ≡ ring →
       Counts k l r (record m { ring = ring }) reply r' m' → Judges k l rules samples r m reply r' m'
   judges_taken None ring r' m' e is kept counts = record {

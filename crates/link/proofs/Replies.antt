@@ -55,7 +55,7 @@ module _ {C S P L : Type 0} (k : cost.Ghosts C S P) (l : line.Ghosts L) where
   replied_counts f n reply (told_wrong report at e) = ap (counts k l) e
 
   -- the only one that refuses is that of parity
-  pub replied_refuses : (f : Format L) (n : ℕ) (reply : Reply k l) → Replied f n reply → (x : Refusal C S P) → reply ≡ Err x → (told x).number ≡ 11
+  pub replied_refuses : (f : Format L) (n : ℕ) (reply : Reply k l) → Replied f n reply → (x : Refusal (Report C S P)) → reply ≡ Err x → (told x).number ≡ 11
   replied_refuses f n reply (waiting h e) x q = let z : ◌≡◌ {A = ℕ} 0 1 = cc in absurd (omega arith)
   replied_refuses f n reply (told_block report at e) x q = let z : ◌≡◌ {A = ℕ} 0 1 = cc in absurd (omega arith)
   replied_refuses f n reply (told_wrong report at e) x q = let same : x ≡ WrongParity report = cc in ap (λ y. (told y).number) same

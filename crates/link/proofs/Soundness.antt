@@ -9,6 +9,7 @@ use Rattle.link.specs.declared.format.Format.{Format}
 use Rattle.link.specs.declared.receiver.Receiver.{Receiver}
 use Rattle.link.specs.declared.refusal.Refusal.{Refusal}
 use Rattle.link.specs.declared.refusal.Refusal.TheVariants.{WrongParity, NotStealable}
+use Rattle.link.specs.declared.report.Report.{Report}
 use Rattle.link.specs.Calls.{Memory, sizes, Reply, Takes, Judges, counted_or, silence}
 use Rattle.link.specs.Histories.{counts, counting, History, begun, heard, missed, stole, restarted, Sound, AllSound}
 use Rattle.link.specs.Refusals.{told}
@@ -28,7 +29,7 @@ module _ {C S P L : Type 0} {k : cost.Ghosts C S P} (laws : Laws k) (l : line.Gh
   module _ (f : Format L) (samples : List S) (bursts : List (List S)) (r r' : Receiver C L S P) (m m' : Memory S P) (reply : Reply k l)
       (before : Invariant f r m.ring bursts) where
     -- a refusal that is not of parity counts nothing
-    refused_counting : (x : Refusal C S P) → Uncounted x → reply ≡ Err x → counting k l reply samples bursts ≡ bursts
+    refused_counting : (x : Refusal (Report C S P)) → Uncounted x → reply ≡ Err x → counting k l reply samples bursts ≡ bursts
     refused_counting x other e = cond-false (counts k l reply) (bursts ++ (samples ∷ [])) bursts (ap (counts k l) e ∙ other)
 
     module _ (takes : Takes k l samples r m reply r' m') where
@@ -50,7 +51,7 @@ module _ {C S P L : Type 0} {k : cost.Ghosts C S P} (laws : Laws k) (l : line.Gh
           subst (λ ring. Keeps k l f ring (bursts ++ (samples ∷ []))) (sym taken_here.ring) (keeps_more k l f m.ring bursts samples before.keeps storable)
 
     -- the call keeps the invariant
-    judged_invariant : (rules : Option (Refusal C S P)) → Guards k f (length m.ring) samples rules → Judges k l rules samples r m reply r' m' →
+    judged_invariant : (rules : Option (Refusal (Report C S P))) → Guards k f (length m.ring) samples rules → Judges k l rules samples r m reply r' m' →
         Invariant f r' m'.ring (counting k l reply samples bursts)
     judged_invariant (Some x) guards refuses =
         subst (Invariant f r' m'.ring) (sym (refused_counting x guards.uncounted refuses.replied)) (record {
@@ -66,7 +67,7 @@ module _ {C S P L : Type 0} {k : cost.Ghosts C S P} (laws : Laws k) (l : line.Gh
         })
 
     -- and does what is claimed
-    judged_sound : (rules : Option (Refusal C S P)) → Guards k f (length m.ring) samples rules → Judges k l rules samples r m reply r' m' →
+    judged_sound : (rules : Option (Refusal (Report C S P))) → Guards k f (length m.ring) samples rules → Judges k l rules samples r m reply r' m' →
         Sound k l f rules samples bursts r m reply r' m'
     judged_sound (Some x) guards refuses = record {
       refused = λ y e. let same : x ≡ y = cc in

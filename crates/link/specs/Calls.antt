@@ -55,7 +55,7 @@ written f path block = map bit_of (take f.message (reverse path)) ++ drop f.mess
 module _ {C S P L : Type 0} (k : cost.Ghosts C S P) (l : line.Ghosts L) where
   -- what hear and miss answer
   abbrev pub Reply : Type 0
-  Reply = Result (Answer C S P) (Refusal C S P)
+  Reply = Result (Answer C S P) (Refusal (Report C S P))
 
   module _ (f : Format L) (due : ℕ → S) where
     -- the cost of a path on the samples due
@@ -84,7 +84,7 @@ module _ {C S P L : Type 0} (k : cost.Ghosts C S P) (l : line.Ghosts L) where
       pub wrote : block' ≡ cond (right f path) (written f path block) block
 
   -- a call is refused, and changes nothing
-  pub record Refuses (x : Refusal C S P) (r : Receiver C L S P) (m : Memory S P) (reply : Reply) (r' : Receiver C L S P) (m' : Memory S P) : Type 0 where
+  pub record Refuses (x : Refusal (Report C S P)) (r : Receiver C L S P) (m : Memory S P) (reply : Reply) (r' : Receiver C L S P) (m' : Memory S P) : Type 0 where
     pub replied : reply ≡ Err x
     pub receiver : r' ≡ r
     pub memory : m' ≡ m
@@ -104,7 +104,7 @@ module _ {C S P L : Type 0} (k : cost.Ghosts C S P) (l : line.Ghosts L) where
     pub counts : Counts r (record m { ring = m'.ring }) reply r' m'
 
   -- by the first rule that is broken
-  abbrev pub Judges : Option (Refusal C S P) → List S → Receiver C L S P → Memory S P → Reply → Receiver C L S P → Memory S P → Type 0
+  abbrev pub Judges : Option (Refusal (Report C S P)) → List S → Receiver C L S P → Memory S P → Reply → Receiver C L S P → Memory S P → Type 0
   Judges (Some x) samples = Refuses x
   Judges None samples = Takes samples
 
@@ -118,12 +118,12 @@ module _ {C S P L : Type 0} (k : cost.Ghosts C S P) (l : line.Ghosts L) where
   abbrev pub Misses : Receiver C L S P → Memory S P → Reply → Receiver C L S P → Memory S P → Type 0
   Misses r m = Judges (first (miss_rules r.format (sizes m) r.counted)) (silence r.format) r m
 
-  abbrev pub counted_or : Option (Refusal C S P) → ℕ → Result ℕ (Refusal C S P)
+  abbrev pub counted_or : Option (Refusal (Report C S P)) → ℕ → Result ℕ (Refusal (Report C S P))
   counted_or (Some x) n = Err x
   counted_or None n = Ok n
 
   -- a burst taken for another channel is not counted
-  pub record Steals (r : Receiver C L S P) (reply : Result ℕ (Refusal C S P)) (r' : Receiver C L S P) : Type 0 where
+  pub record Steals (r : Receiver C L S P) (reply : Result ℕ (Refusal (Report C S P))) (r' : Receiver C L S P) : Type 0 where
     pub replied : reply ≡ counted_or (first (stolen_rules r.format)) r.counted
     pub receiver : r' ≡ r
 

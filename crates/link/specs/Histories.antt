@@ -32,7 +32,7 @@ module _ {C S P L : Type 0} (k : cost.Ghosts C S P) (l : line.Ghosts L) where
         History opened r m.ring bursts → Hears k l samples r m reply r' m' → History opened r' m'.ring (counting reply samples bursts)
     missed : (r r' : Receiver C L S P) (bursts : List (List S)) (m m' : Memory S P) (reply : Reply k l) →
         History opened r m.ring bursts → Misses k l r m reply r' m' → History opened r' m'.ring (counting reply (silence k l r.format) bursts)
-    stole : (r r' : Receiver C L S P) (ring : List S) (bursts : List (List S)) (reply : Result ℕ (Refusal C S P)) →
+    stole : (r r' : Receiver C L S P) (ring : List S) (bursts : List (List S)) (reply : Result ℕ (Refusal (Report C S P))) →
         History opened r ring bursts → Steals k l r reply r' → History opened r' ring bursts
     restarted : (r r' : Receiver C L S P) (ring : List S) (bursts : List (List S)) →
         History opened r ring bursts → Restarts k l r r' → History opened r' ring []
@@ -55,12 +55,12 @@ module _ {C S P L : Type 0} (k : cost.Ghosts C S P) (l : line.Ghosts L) where
         (reply ≡ Err (WrongParity (report_of k l f (in_bursts k f bursts b) b path))) × (block' ≡ block)
 
   -- what is claimed of one hear or miss, from the rules that it is held against and the burst that it offers
-  pub record Sound (f : Format L) (rules : Option (Refusal C S P)) (samples : List S) (bursts : List (List S))
+  pub record Sound (f : Format L) (rules : Option (Refusal (Report C S P))) (samples : List S) (bursts : List (List S))
       (r : Receiver C L S P) (m : Memory S P) (reply : Reply k l) (r' : Receiver C L S P) (m' : Memory S P) : Type 0 where
     -- refused where a rule is broken, and then nothing has changed
-    pub refused : (x : Refusal C S P) → rules ≡ Some x → (reply ≡ Err x) × (r' ≡ r) × (m' ≡ m) × (counting reply samples bursts ≡ bursts)
+    pub refused : (x : Refusal (Report C S P)) → rules ≡ Some x → (reply ≡ Err x) × (r' ≡ r) × (m' ≡ m) × (counting reply samples bursts ≡ bursts)
     -- and refused for nothing else, but for parity
-    pub only : (x : Refusal C S P) → reply ≡ Err x → (rules ≡ Some x) ⊎ ((told x).number ≡ 11)
+    pub only : (x : Refusal (Report C S P)) → reply ≡ Err x → (rules ≡ Some x) ⊎ ((told x).number ≡ 11)
     -- otherwise the burst is counted
     pub accepted : rules ≡ None → counting reply samples bursts ≡ bursts ++ (samples ∷ [])
     -- while the first block's bursts are not all counted, the answer is the burst's number and no other memory is touched
@@ -88,7 +88,7 @@ module _ {C S P L : Type 0} (k : cost.Ghosts C S P) (l : line.Ghosts L) where
         History opened r m.ring bursts → Misses k l r m reply r' m' →
         Sound opened.format (first (miss_rules opened.format (sizes m) (length bursts))) (silence k l opened.format) bursts r m reply r' m'
     -- stolen counts nothing, tells how many bursts are counted, and is refused at depth 1
-    pub steals : (r r' : Receiver C L S P) (ring : List S) (bursts : List (List S)) (reply : Result ℕ (Refusal C S P)) →
+    pub steals : (r r' : Receiver C L S P) (ring : List S) (bursts : List (List S)) (reply : Result ℕ (Refusal (Report C S P))) →
         History opened r ring bursts → Steals k l r reply r' →
         (r' ≡ r) × (reply ≡ cond (opened.format.depth == 1) (Err NotStealable) (Ok (length bursts)))
     -- restart keeps the format

@@ -4,3 +4,5 @@ pub mod Histories
 pub mod Opening
 pub mod Refusals
 pub mod Rules
+pub mod Sending
+pub mod Streams

@@ -1,4 +1,4 @@
-// Both ends of a link: the block format, and the receiver with its calls.
+// Both ends of a link: the block format, the receiver and the sender with their calls.
 #![tactic(auto)]
 
 mod due;
@@ -9,3 +9,4 @@ pub mod receiver;
 pub mod refusal;
 pub mod report;
 mod ring;
+pub mod sender;

@@ -23,6 +23,13 @@ pub struct Sizes {
     pub block: usize,
 }
 
+// The same of what is lent at each send: the ring of bits and the burst memory.
+#[derive(Clone, Copy, Debug, PartialEq, Eq)]
+pub struct SenderSizes {
+    pub ring: usize,
+    pub burst: usize,
+}
+
 impl<'r, 'c, 'p, 'b, C: Cost> Memory<'r, 'c, 'p, 'b, C> {
     pub fn sizes(&self) -> Sizes
         ensures { result ≡ sizes (lent self.now) }

@@ -1,10 +1,7 @@
 // Why a call was refused. Each refusal tells its number, whom it concerns, and a detail.
 ghost use Rattle.std.specs.Prelude.{◌≡◌};
 ghost use Rattle.link.specs.Refusals.{told};
-ghost use Rattle.link.specs.Rules.{passed, unless};
-
-use crate::report::Report;
-use cost::kind::Cost;
+ghost use Rattle.link.specs.Rules.{enough, passed, room, unless};
 
 #[derive(Clone, Copy, Debug, PartialEq, Eq)]
 pub enum Group {
@@ -15,8 +12,9 @@ pub enum Group {
     Recording,
 }
 
+// Generic in what is told of a block that is refused, so that a sender's refusals, which never are of a block, name no kind of cost.
 #[derive(Clone, Copy, Debug, PartialEq, Eq)]
-pub enum Refusal<C: Cost> {
+pub enum Refusal<B> {
     // The installer's: what was opened cannot be.
     UnsoundCode,
     BadLengths,
@@ -25,16 +23,18 @@ pub enum Refusal<C: Cost> {
     ShortMemory { needed: usize },
     CountFull,
     NotStealable,
+    WrongLength,
+    BadBit { place: usize },
     // The radio's.
     WrongCount { given: usize },
     UnfitSample { place: usize },
     // The air's: the burst and its block are counted all the same.
-    WrongParity(Report<C>),
+    WrongParity(B),
     // The recording's.
     BadRecord { offset: usize },
 }
 
-impl<C: Cost> Refusal<C> {
+impl<B: Copy> Refusal<B> {
     // The number and the detail, 0 where none is named, are what a refusal tells outside; inside it is the enum.
     pub fn number(&self) -> u8
         ensures { result ≡ (told self.now).number }
@@ -48,6 +48,8 @@ impl<C: Cost> Refusal<C> {
             Refusal::WrongCount { .. } => 6,
             Refusal::UnfitSample { .. } => 7,
             Refusal::NotStealable => 8,
+            Refusal::WrongLength => 9,
+            Refusal::BadBit { .. } => 10,
             Refusal::WrongParity(_) => 11,
             Refusal::BadRecord { .. } => 12,
         }
@@ -58,7 +60,11 @@ impl<C: Cost> Refusal<C> {
     {
         match self {
             Refusal::UnsoundCode | Refusal::BadLengths | Refusal::UnsuitedLine => Group::Installer,
-            Refusal::ShortMemory { .. } | Refusal::CountFull | Refusal::NotStealable => Group::Host,
+            Refusal::ShortMemory { .. }
+            | Refusal::CountFull
+            | Refusal::NotStealable
+            | Refusal::WrongLength
+            | Refusal::BadBit { .. } => Group::Host,
             Refusal::WrongCount { .. } | Refusal::UnfitSample { .. } => Group::Radio,
             Refusal::WrongParity(_) => Group::Air,
             Refusal::BadRecord { .. } => Group::Recording,
@@ -72,6 +78,7 @@ impl<C: Cost> Refusal<C> {
             Refusal::ShortMemory { needed } => *needed,
             Refusal::WrongCount { given } => *given,
             Refusal::UnfitSample { place } => *place,
+            Refusal::BadBit { place } => *place,
             Refusal::BadRecord { offset } => *offset,
             _ => 0,
         }
@@ -79,8 +86,23 @@ impl<C: Cost> Refusal<C> {
 }
 
 // Passes where a rule holds, and is refused where it is broken.
-pub(crate) fn unless<C: Cost>(holds: bool, refusal: Refusal<C>) -> Result<(), Refusal<C>>
+pub(crate) fn unless<B: Copy>(holds: bool, refusal: Refusal<B>) -> Result<(), Refusal<B>>
     ensures { result ≡ passed (unless holds refusal) }
 {
     if holds { Ok(()) } else { Err(refusal) }
+}
+
+// What both ends check of a memory that is lent, and of their count.
+pub(crate) fn check_size<B: Copy>(size: usize, lent: usize) -> Result<(), Refusal<B>>
+    ensures { result ≡ passed (enough size lent) }
+{
+    unless(size <= lent, Refusal::ShortMemory { needed: size })
+}
+
+const MOST_BURSTS: usize = 1_000_000;
+
+pub(crate) fn check_count<B: Copy>(counted: usize) -> Result<(), Refusal<B>>
+    ensures { result ≡ passed (room counted) }
+{
+    unless(counted < MOST_BURSTS, Refusal::CountFull)
 }

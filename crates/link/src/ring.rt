@@ -10,6 +10,15 @@ pub(crate) struct Ring<'a, 'f, S, L> {
     format: &'f Format<L>,
 }
 
+impl<L> Format<L> {
+    // Where the cells of burst n begin.
+    pub(crate) fn row(&self, n: usize) -> usize
+        ensures { result ≡ cell self.now n 0 }
+    {
+        n % self.depth * self.burst
+    }
+}
+
 impl<'a, 'f, S: Copy, L> Ring<'a, 'f, S, L> {
     pub(crate) fn new(cells: &'a mut [S], format: &'f Format<L>) -> Ring<'a, 'f, S, L>
         ensures cells { result.cells.now ≡ cells.old }
@@ -19,13 +28,6 @@ impl<'a, 'f, S: Copy, L> Ring<'a, 'f, S, L> {
         Ring { cells, format }
     }
 
-    // Where the cells of burst n begin.
-    fn start(&self, n: usize) -> usize
-        ensures { result ≡ cell self.now.format.now n 0 }
-    {
-        n % self.format.depth * self.format.burst
-    }
-
     // Burst n in its cells.
     pub(crate) fn store(&mut self, n: usize, samples: &[S])
         requires whole { length samples.now ≡ self.old.format.now.burst }
@@ -33,7 +35,7 @@ impl<'a, 'f, S: Copy, L> Ring<'a, 'f, S, L> {
         ensures cells { self.new.cells.now ≡ stored self.old.format.now n samples.now self.old.cells.now }
         ensures same { self.new.cells.ghost_name ≡ self.old.cells.ghost_name }
     {
-        let at = self.start(n);
+        let at = self.format.row(n);
         self.cells[at..at + samples.len()].copy_from_slice(samples);
     }
 
@@ -43,7 +45,7 @@ impl<'a, 'f, S: Copy, L> Ring<'a, 'f, S, L> {
         ensures cells { self.new.cells.now ≡ stored self.old.format.now n (replicate self.old.format.now.burst sample) self.old.cells.now }
         ensures same { self.new.cells.ghost_name ≡ self.old.cells.ghost_name }
     {
-        let at = self.start(n);
+        let at = self.format.row(n);
         let burst = self.format.burst;
         let part = &mut self.cells[at..at + burst];
         for cell in part.iter_mut() {

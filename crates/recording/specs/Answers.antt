@@ -50,7 +50,7 @@ module _ (w : Weighing) (opened : Receiver w.C Laying w.S w.P) where
         Goes r m bursts h (misses ∷ records) (answer_line w.figures opened.format.message reply m'.block ∷ lines)
     -- a burst stolen: its line tells what the receiver answers
     stealing : (r r' : Receiver w.C Laying w.S w.P) (m : Memory w.S w.P) (bursts : List (List w.S))
-        (h : History w.kind laying_line opened r m.ring bursts) (reply : Result ℕ (Refusal w.C w.S w.P))
+        (h : History w.kind laying_line opened r m.ring bursts) (reply : Result ℕ (Refusal (Report w.C w.S w.P)))
         (called : Steals w.kind laying_line r reply r') (records : List Said) (lines : List (List ℕ)) →
         Goes r' m bursts (stole r r' m.ring bursts reply h called) records lines →
         Goes r m bursts h (steals ∷ records) (stolen_line reply ∷ lines)

@@ -27,7 +27,7 @@ abbrev pub restarted_line : List ℕ
 restarted_line = words (codes "R" ∷ [])
 
 module _ {C S P : Type 0} where
-  abbrev pub refusal_line : Refusal C S P → List ℕ
+  abbrev pub refusal_line : Refusal (Report C S P) → List ℕ
   refusal_line refusal = words (codes "X" ∷ decimal (told refusal).number ∷ decimal (told refusal).detail ∷ [])
 
   -- of a block its number, its cost as `figures` writes it, its heard count, and the message that the block memory holds
@@ -37,12 +37,12 @@ module _ {C S P : Type 0} where
       words (codes "B" ∷ decimal report.block ∷ figures report.cost ∷ decimal report.heard ∷ bits (take message block) ∷ [])
 
   -- the answer to a burst heard or missed
-  abbrev pub answer_line : (C → List ℕ) → ℕ → Result (Answer C S P) (Refusal C S P) → List ℕ → List ℕ
+  abbrev pub answer_line : (C → List ℕ) → ℕ → Result (Answer C S P) (Refusal (Report C S P)) → List ℕ → List ℕ
   answer_line figures message (Ok answer) block = told_line figures message answer block
   answer_line figures message (Err refusal) block = refusal_line refusal
 
   -- the answer to a stolen burst
-  abbrev pub stolen_line : Result ℕ (Refusal C S P) → List ℕ
+  abbrev pub stolen_line : Result ℕ (Refusal (Report C S P)) → List ℕ
   stolen_line (Ok counted) = words (codes "S" ∷ decimal counted ∷ [])
   stolen_line (Err refusal) = refusal_line refusal
 

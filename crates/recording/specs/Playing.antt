@@ -62,7 +62,7 @@ module _ (w : Weighing) where
 
   -- a stolen burst changes nothing, and the line tells the answer
   pub record StolenReplied (s s' : Station w.C w.S w.P) (line : List ℕ) : Type 0 where
-    pub reply : Result ℕ (Refusal w.C w.S w.P)
+    pub reply : Result ℕ (Refusal (Report w.C w.S w.P))
     pub called : Steals w.kind laying_line s.receiver reply s.receiver
     pub kept : s' ≡ s
     pub tells : line ≡ stolen_line reply

@@ -15,10 +15,10 @@ use std::fmt;
 pub enum Line<M, C: Cost> {
     Opened(Channel),
     // Of a block decided, with its message.
-    Answered(Result<Answer<C>, Refusal<C>>, M),
-    Stolen(Result<usize, Refusal<C>>),
+    Answered(Result<Answer<C>, Refusal<Report<C>>>, M),
+    Stolen(Result<usize, Refusal<Report<C>>>),
     Restarted,
-    Refused(Refusal<C>),
+    Refused(Refusal<Report<C>>),
 }
 
 // Bits, each a byte 0 or 1.

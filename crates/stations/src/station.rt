@@ -39,7 +39,7 @@ impl<C: Cost> Station<C> {
 
     // Each slice is named before it is lent, since the check does not follow a Vec into a field. One body for hear and miss, over an
     // `Option` of a burst, meets lifetimes that the check does not cover.
-    pub fn hear(&mut self, samples: &[C::Sample]) -> Result<Answer<C>, Refusal<C>>
+    pub fn hear(&mut self, samples: &[C::Sample]) -> Result<Answer<C>, Refusal<Report<C>>>
         ensures { HearsHere C.Cost samples.now self.old result self.new }
     {
         let Station {
@@ -62,7 +62,7 @@ impl<C: Cost> Station<C> {
         receiver.hear(samples, &mut memory)
     }
 
-    pub fn miss(&mut self) -> Result<Answer<C>, Refusal<C>>
+    pub fn miss(&mut self) -> Result<Answer<C>, Refusal<Report<C>>>
         ensures { MissesHere C.Cost self.old result self.new }
     {
         let Station {
@@ -85,7 +85,7 @@ impl<C: Cost> Station<C> {
         receiver.miss(&mut memory)
     }
 
-    pub fn stolen(&self) -> Result<usize, Refusal<C>>
+    pub fn stolen(&self) -> Result<usize, Refusal<Report<C>>>
         ensures { Steals C.Cost laying_line self.now.receiver result self.now.receiver }
     {
         self.receiver.stolen()

@@ -47,7 +47,7 @@ fn decode_under<C: Figured + Voiced>(
 fn print_reply<C: Figured>(
     rt: &HostRuntime,
     trial: &Trial<'_>,
-    reply: Result<Answer<C>, Refusal<C>>,
+    reply: Result<Answer<C>, Refusal<Report<C>>>,
     message: &[u8],
 ) -> anyhow::Result<()> {
     let line = Line::Answered(reply, Bits(message));

@@ -27,7 +27,7 @@ pub(crate) fn take<C: Voiced>(
     condition: Condition,
     n: usize,
     burst: &[u8],
-) -> Result<Result<Answer<C>, Refusal<C>>, AllocError> {
+) -> Result<Result<Answer<C>, Refusal<Report<C>>>, AllocError> {
     if condition.loses(n) {
         return Ok(station.miss());
     }

@@ -6,7 +6,6 @@ ghost use Rattle.link.specs.Rules.{lengths_suit, line_suits};
 use super::Format;
 use crate::proposal::Proposal;
 use crate::refusal::{Refusal, unless};
-use cost::kind::Cost;
 use line::laying::Line;
 
 const MOST_MESSAGE: usize = 512;
@@ -31,7 +30,7 @@ fn line_suits<L: Line>(line: &L, coded: usize) -> bool
 }
 
 impl<L: Line> Format<L> {
-    pub(crate) fn agree<C: Cost>(proposal: Proposal<L>) -> Result<Format<L>, Refusal<C>>
+    pub(crate) fn agree<B: Copy>(proposal: Proposal<L>) -> Result<Format<L>, Refusal<B>>
         ensures { Agrees L.Line proposal result }
     {
         let Proposal {

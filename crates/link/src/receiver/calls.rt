@@ -7,7 +7,7 @@ use crate::format::Format;
 use crate::memory::Memory;
 use crate::proposal::Proposal;
 use crate::refusal::{Refusal, unless};
-use crate::report::Answer;
+use crate::report::{Answer, Report};
 use crate::ring::{store, store_same};
 use cost::kind::Cost;
 use line::laying::Line;
@@ -16,10 +16,10 @@ use std::marker::PhantomData;
 impl<C: Cost, L: Line> Receiver<C, L> {
     // Opens a receiver for blocks of this format. Of what it opens every history is sound: each block told is the
     // trellis rule's answer on the bursts counted, and no other run of message and parity bits costs less.
-    pub fn open(proposal: Proposal<L>) -> Result<Receiver<C, L>, Refusal<C>>
+    pub fn open(proposal: Proposal<L>) -> Result<Receiver<C, L>, Refusal<Report<C>>>
         ensures { Opens C.Cost L.Line proposal result }
     {
-        let format = Format::<L>::agree::<C>(proposal)?;
+        let format = Format::<L>::agree::<Report<C>>(proposal)?;
         Ok(Receiver {
             format,
             counted: 0,
@@ -32,7 +32,7 @@ impl<C: Cost, L: Line> Receiver<C, L> {
         &mut self,
         samples: &[C::Sample],
         memory: &mut Memory<C>,
-    ) -> Result<Answer<C>, Refusal<C>>
+    ) -> Result<Answer<C>, Refusal<Report<C>>>
         ensures called { Hears C.Cost L.Line samples.now self.old (lent memory.old) result self.new (lent memory.new) }
         ensures loans { SameLoans memory.old memory.new }
     {
@@ -42,7 +42,7 @@ impl<C: Cost, L: Line> Receiver<C, L> {
     }
 
     // Counts a burst that never came. Beside hear, since the checks and what is stored differ, and the rest is `count`.
-    pub fn miss(&mut self, memory: &mut Memory<C>) -> Result<Answer<C>, Refusal<C>>
+    pub fn miss(&mut self, memory: &mut Memory<C>) -> Result<Answer<C>, Refusal<Report<C>>>
         ensures called { Misses C.Cost L.Line self.old (lent memory.old) result self.new (lent memory.new) }
         ensures loans { SameLoans memory.old memory.new }
     {
@@ -52,7 +52,7 @@ impl<C: Cost, L: Line> Receiver<C, L> {
     }
 
     // Notes a burst taken for another channel: it counts nothing, and answers the bursts counted so far.
-    pub fn stolen(&self) -> Result<usize, Refusal<C>>
+    pub fn stolen(&self) -> Result<usize, Refusal<Report<C>>>
         ensures { Steals C.Cost L.Line self.now result self.now }
     {
         unless(self.format.depth != 1, Refusal::NotStealable)?;

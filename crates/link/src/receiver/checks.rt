@@ -1,15 +1,14 @@
 // The checks of hear and miss, in the order of the refusals' numbers.
 ghost use Rattle.std.specs.Prelude.{◌≡◌, ◌*◌, ◌^◌};
-ghost use Rattle.link.specs.Rules.{all_fit, enough, first, hear_rules, memory_rules, miss_rules, needed, passed, steps};
+ghost use Rattle.link.specs.Rules.{all_fit, first, hear_rules, memory_rules, miss_rules, needed, passed, steps};
 
 use super::Receiver;
 use crate::format::Format;
 use crate::memory::Sizes;
-use crate::refusal::{Refusal, unless};
+use crate::refusal::{Refusal, check_count, check_size, unless};
+use crate::report::Report;
 use cost::kind::Cost;
 use line::laying::Line;
-
-const MOST_BURSTS: usize = 1_000_000;
 
 impl<L: Line> Format<L> {
     // As many steps as protected bits and closing zeros.
@@ -27,14 +26,8 @@ impl<L: Line> Format<L> {
     }
 }
 
-fn check_size<C: Cost>(size: usize, lent: usize) -> Result<(), Refusal<C>>
-    ensures { result ≡ passed (enough size lent) }
-{
-    unless(size <= lent, Refusal::ShortMemory { needed: size })
-}
-
 // In order, with the index, so that the first unfit place is named.
-fn check_fit<C: Cost>(samples: &[C::Sample]) -> Result<(), Refusal<C>>
+fn check_fit<C: Cost>(samples: &[C::Sample]) -> Result<(), Refusal<Report<C>>>
     ensures { result ≡ passed (all_fit C.Cost 0 samples.now) }
 {
     for (place, sample) in samples.iter().enumerate() {
@@ -60,24 +53,28 @@ impl<C: Cost, L: Line> Receiver<C, L> {
     }
 
     // The memory lent, in the order ring, costs, path record, block.
-    fn check_memory(&self, lent: Sizes) -> Result<(), Refusal<C>>
+    fn check_memory(&self, lent: Sizes) -> Result<(), Refusal<Report<C>>>
         ensures { result ≡ passed (first (memory_rules self.now.format lent)) }
     {
         let needs = self.needs();
-        check_size::<C>(needs.ring, lent.ring)?;
-        check_size::<C>(needs.costs, lent.costs)?;
-        check_size::<C>(needs.paths, lent.paths)?;
-        check_size::<C>(needs.block, lent.block)
+        check_size(needs.ring, lent.ring)?;
+        check_size(needs.costs, lent.costs)?;
+        check_size(needs.paths, lent.paths)?;
+        check_size(needs.block, lent.block)
     }
 
-    pub(super) fn check_miss(&self, lent: Sizes) -> Result<(), Refusal<C>>
+    pub(super) fn check_miss(&self, lent: Sizes) -> Result<(), Refusal<Report<C>>>
         ensures { result ≡ passed (first (miss_rules self.now.format lent self.now.counted)) }
     {
         self.check_memory(lent)?;
-        unless(self.counted < MOST_BURSTS, Refusal::CountFull)
+        check_count(self.counted)
     }
 
-    pub(super) fn check_hear(&self, samples: &[C::Sample], lent: Sizes) -> Result<(), Refusal<C>>
+    pub(super) fn check_hear(
+        &self,
+        samples: &[C::Sample],
+        lent: Sizes,
+    ) -> Result<(), Refusal<Report<C>>>
         ensures { result ≡ passed (first (hear_rules C.Cost self.now.format lent self.now.counted samples.now)) }
     {
         self.check_miss(lent)?;

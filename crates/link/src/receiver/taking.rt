@@ -10,7 +10,7 @@ use crate::due::Due;
 use crate::format::Format;
 use crate::memory::Memory;
 use crate::refusal::Refusal;
-use crate::report::Answer;
+use crate::report::{Answer, Report};
 use cost::kind::Cost;
 use line::laying::Line;
 use trellis::parity::remainder_of;
@@ -45,7 +45,7 @@ impl<C: Cost, L: Line> Receiver<C, L> {
         costs: &mut [Option<C::Plain>],
         paths: &mut [u8],
         block: &mut [u8],
-    ) -> Result<Answer<C>, Refusal<C>>
+    ) -> Result<Answer<C>, Refusal<Report<C>>>
         requires { Suffices self.now.format (length costs.old) (length paths.old) (length block.old) }
         ensures decided { Decides C.Cost L.Line self.now.format (in_ring C.Cost self.now.format ring.old number) number block.old result block.new }
         ensures ring { ring.new ≡ ring.old }
@@ -64,7 +64,7 @@ impl<C: Cost, L: Line> Receiver<C, L> {
     }
 
     // Counts the burst that was stored, and decides the block that it ends.
-    pub(super) fn count(&mut self, memory: &mut Memory<C>) -> Result<Answer<C>, Refusal<C>>
+    pub(super) fn count(&mut self, memory: &mut Memory<C>) -> Result<Answer<C>, Refusal<Report<C>>>
         requires memory { Suffices self.old.format (length memory.old.costs.now) (length memory.old.paths.now) (length memory.old.block.now) }
         requires room { self.old.counted < 1000000 }
         ensures counted { Counts C.Cost L.Line self.old (lent memory.old) result self.new (lent memory.new) }

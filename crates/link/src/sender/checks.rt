@@ -1,0 +1,48 @@
+// The checks of a send, in the order of the refusals' numbers.
+ghost use Rattle.std.specs.Prelude.{◌≡◌, length};
+ghost use Rattle.link.specs.declared.refusal.Refusal.TheVariants.{BadBit};
+ghost use Rattle.link.specs.Rules.{all_such, first, is_bit, passed, send_rules, sender_needs};
+
+use super::Sender;
+use crate::memory::SenderSizes;
+use crate::refusal::{Refusal, check_count, check_size, unless};
+use line::laying::Line;
+use std::convert::Infallible;
+
+// In order, so that the first byte that is no bit is named.
+fn check_bits(message: &[u8]) -> Result<(), Refusal<Infallible>>
+    ensures { result ≡ passed (all_such is_bit BadBit 0 message.now) }
+{
+    match message.iter().position(|byte| *byte > 1) {
+        Some(place) => Err(Refusal::BadBit { place }),
+        None => Ok(()),
+    }
+}
+
+impl<L: Line> Sender<L> {
+    // How much memory send is to be lent.
+    pub fn needs(&self) -> SenderSizes
+        ensures { result ≡ sender_needs self.now.format }
+    {
+        SenderSizes {
+            ring: self.format.depth * self.format.burst,
+            burst: self.format.burst,
+        }
+    }
+
+    // The memory lent, in the order ring, burst, and then the count and the message.
+    pub(super) fn check_send(
+        &self,
+        message: &[u8],
+        lent: SenderSizes,
+    ) -> Result<(), Refusal<Infallible>>
+        ensures { result ≡ passed (first (send_rules self.now.format lent self.now.counted message.now)) }
+    {
+        let needs = self.needs();
+        check_size(needs.ring, lent.ring)?;
+        check_size(needs.burst, lent.burst)?;
+        check_count(self.counted)?;
+        unless(message.len() == self.format.message, Refusal::WrongLength)?;
+        check_bits(message)
+    }
+}

@@ -1,0 +1,125 @@
+// Laying bits by burst place: those of a block in the ring, and those that a burst takes from the ring.
+ghost use Rattle.std.specs.Prelude.{◌≡◌, ◌≤◌, ◌+◌, ◌*◌, ℕ, Bool, List, map, length, take};
+ghost use Rattle.trellis.specs.Bits.{odd, xor};
+ghost use Rattle.trellis.specs.Coding.{coded_bit};
+ghost use Rattle.link.specs.Due.{laid_at, stored};
+ghost use Rattle.link.specs.Sending.{Filled, Interleaved, Spread, carried, run_of};
+
+use crate::format::Format;
+use line::laying::Line;
+use trellis::code::Code;
+use trellis::parity::remainder_of;
+
+const MOST_RUN: usize = 528;
+
+// The bit of each coded place, which goes to burst place k and is turned over there or not.
+trait Bits {
+    ghost bit: { Self → ℕ → ℕ → Bool → Bool };
+
+    fn bit(&self, j: usize, k: usize, turned: bool) -> bool
+        ensures { result ≡ bit self.now j k turned };
+}
+
+// The coded bits of a block, before turning.
+#[derive(Drop)]
+struct Coded<'c, 'r> {
+    code: &'c Code,
+    run: &'r [u8],
+}
+
+impl<'c, 'r> Bits for Coded<'c, 'r> {
+    ghost bit = { λ b j k turned. coded_bit b.code.now (map odd b.run.now) j };
+
+    fn bit(&self, j: usize, _: usize, _: bool) -> bool {
+        self.code.coded_bit(self.run, j)
+    }
+}
+
+// The bits that burst `number` takes from the ring.
+#[derive(Drop)]
+struct Carried<'r, 'f, L> {
+    ring: &'r [u8],
+    format: &'f Format<L>,
+    number: usize,
+}
+
+impl<'r, 'f, L> Carried<'r, 'f, L> {
+    // What the burst carries at place k before turning.
+    fn carried(&self, k: usize) -> bool
+        ensures { result ≡ carried self.now.format.now self.now.ring.now self.now.number k }
+    {
+        let back = k % self.format.depth;
+        if back > self.number {
+            return false;
+        }
+        let at = self.format.row(self.number - back) + k;
+        self.ring.get(at).is_some_and(|byte| *byte > 0)
+    }
+}
+
+impl<'r, 'f, L> Bits for Carried<'r, 'f, L> {
+    ghost bit = { λ b j k turned. xor turned (carried b.format.now b.ring.now b.number k) };
+
+    fn bit(&self, _: usize, k: usize, turned: bool) -> bool {
+        turned != self.carried(k)
+    }
+}
+
+impl<L: Line> Format<L> {
+    // Puts each bit that is sent at its burst place. Of a format that was agreed on, no place is left over.
+    fn fill<B: Bits>(&self, bits: &B, row: &mut [u8])
+        requires { length row.old ≡ self.now.burst }
+        ensures { Filled L.Line self.now (B.Bits.bit bits.now) row.new }
+    {
+        for j in 0..self.line.coded_bits() {
+            if let Some((k, turned)) = self.line.place_of(j) {
+                if let Some(byte) = row.get_mut(k) {
+                    *byte = bits.bit(j, k, turned) as u8;
+                }
+            }
+        }
+    }
+
+    // The protected bits of a message: the message and its parity.
+    fn protected(&self, message: &[u8]) -> [u8; MOST_RUN]
+        requires { length message.now ≡ self.now.message }
+        ensures { map odd (take (self.now.message + self.now.parity) result) ≡ run_of self.now (map odd message.now) }
+    {
+        let mut run = [0; MOST_RUN];
+        run[..self.message].copy_from_slice(message);
+        let end = self.message + self.parity;
+        let remainder = remainder_of(&run[..end]);
+        for power in 0..self.parity {
+            run[end - 1 - power] = (remainder >> power & 1) as u8;
+        }
+        run
+    }
+
+    // Keeps the bits of block `number` in its cells of the ring.
+    pub(super) fn keep(&self, number: usize, message: &[u8], ring: &mut [u8])
+        requires message { length message.now ≡ self.now.message }
+        requires room { self.now.depth * self.now.burst ≤ length ring.old }
+        ensures { (block : List ℕ) × Interleaved L.Line self.now (map odd message.now) block × (ring.new ≡ stored self.now number block ring.old) }
+    {
+        let run = self.protected(message);
+        let coded = Coded {
+            code: &self.code,
+            run: &run[..self.message + self.parity],
+        };
+        let at = self.row(number);
+        self.fill(&coded, &mut ring[at..at + self.burst]);
+    }
+
+    // Puts burst `number` at the front of the burst memory.
+    pub(super) fn put(&self, number: usize, ring: &[u8], burst: &mut [u8])
+        requires { self.now.burst ≤ length burst.old }
+        ensures { (row : List ℕ) × Spread L.Line self.now number ring.now row × (burst.new ≡ laid_at 0 row burst.old) }
+    {
+        let carried = Carried {
+            ring,
+            format: self,
+            number,
+        };
+        self.fill(&carried, &mut burst[..self.burst]);
+    }
+}
