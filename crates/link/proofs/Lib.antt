@@ -1,5 +1,6 @@
 pub mod Best
 pub mod Deciding
+pub mod Filling
 pub mod FirstRule
 pub mod Judging
 pub mod KeptBursts
@@ -7,3 +8,5 @@ pub mod Laying
 pub mod Replies
 pub mod Rings
 pub mod Soundness
+pub mod Streaming
+pub mod Writing

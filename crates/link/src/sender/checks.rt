@@ -13,10 +13,12 @@ use std::convert::Infallible;
 fn check_bits(message: &[u8]) -> Result<(), Refusal<Infallible>>
     ensures { result ≡ passed (all_such is_bit BadBit 0 message.now) }
 {
-    match message.iter().position(|byte| *byte > 1) {
-        Some(place) => Err(Refusal::BadBit { place }),
-        None => Ok(()),
+    for (place, byte) in message.iter().enumerate() {
+        if *byte > 1 {
+            return Err(Refusal::BadBit { place });
+        }
     }
+    Ok(())
 }
 
 impl<L: Line> Sender<L> {

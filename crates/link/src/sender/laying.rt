@@ -1,9 +1,10 @@
 // Laying bits by burst place: those of a block in the ring, and those that a burst takes from the ring.
-ghost use Rattle.std.specs.Prelude.{◌≡◌, ◌≤◌, ◌+◌, ◌*◌, ℕ, Bool, List, map, length, take};
-ghost use Rattle.trellis.specs.Bits.{odd, xor};
+ghost use Rattle.std.specs.Prelude.{◌≡◌, ◌≤◌, ◌+◌, ◌*◌, ℕ, Bool, List, map, length, reverse, replicate};
+ghost use Rattle.trellis.specs.Bits.{bit_of, bits, odd, xor};
 ghost use Rattle.trellis.specs.Coding.{coded_bit};
+ghost use Rattle.trellis.specs.Parity.{with_parity};
 ghost use Rattle.link.specs.Due.{laid_at, stored};
-ghost use Rattle.link.specs.Sending.{Filled, Interleaved, Spread, carried, run_of};
+ghost use Rattle.link.specs.Sending.{Filled, Interleaved, Spread, carried};
 
 use crate::format::Format;
 use line::laying::Line;
@@ -52,7 +53,7 @@ impl<'r, 'f, L> Carried<'r, 'f, L> {
         if back > self.number {
             return false;
         }
-        let at = self.format.row(self.number - back) + k;
+        let at = self.format.row(self.number - back).saturating_add(k);
         self.ring.get(at).is_some_and(|byte| *byte > 0)
     }
 }
@@ -65,6 +66,29 @@ impl<'r, 'f, L> Bits for Carried<'r, 'f, L> {
     }
 }
 
+// Writes the lowest bits of a number, the highest first.
+fn write_bits(number: u32, row: &mut [u8])
+    requires { length row.old ≤ 16 }
+    ensures { row.new ≡ map bit_of (reverse (bits (length row.old) number)) }
+{
+    let highest = row.len();
+    for (place, bit) in row.iter_mut().enumerate() {
+        *bit = (number >> (highest - 1 - place) & 1) as u8;
+    }
+}
+
+// Writes a run: a message, and its parity in the zeros after it.
+fn write_run(message: &[u8], width: usize, run: &mut [u8])
+    requires width { width ≤ 16 }
+    requires zeros { run.old ≡ replicate (length message.now + width) 0 }
+    ensures { map odd run.new ≡ with_parity width (map odd message.now) }
+{
+    let end = message.len();
+    run[..end].copy_from_slice(message);
+    let remainder = remainder_of(run);
+    write_bits(remainder, &mut run[end..]);
+}
+
 impl<L: Line> Format<L> {
     // Puts each bit that is sent at its burst place. Of a format that was agreed on, no place is left over.
     fn fill<B: Bits>(&self, bits: &B, row: &mut [u8])
@@ -72,27 +96,13 @@ impl<L: Line> Format<L> {
         ensures { Filled L.Line self.now (B.Bits.bit bits.now) row.new }
     {
         for j in 0..self.line.coded_bits() {
-            if let Some((k, turned)) = self.line.place_of(j) {
-                if let Some(byte) = row.get_mut(k) {
-                    *byte = bits.bit(j, k, turned) as u8;
-                }
+            let Some((k, turned)) = self.line.place_of(j) else {
+                continue;
+            };
+            if k < row.len() {
+                row[k] = bits.bit(j, k, turned) as u8;
             }
         }
-    }
-
-    // The protected bits of a message: the message and its parity.
-    fn protected(&self, message: &[u8]) -> [u8; MOST_RUN]
-        requires { length message.now ≡ self.now.message }
-        ensures { map odd (take (self.now.message + self.now.parity) result) ≡ run_of self.now (map odd message.now) }
-    {
-        let mut run = [0; MOST_RUN];
-        run[..self.message].copy_from_slice(message);
-        let end = self.message + self.parity;
-        let remainder = remainder_of(&run[..end]);
-        for power in 0..self.parity {
-            run[end - 1 - power] = (remainder >> power & 1) as u8;
-        }
-        run
     }
 
     // Keeps the bits of block `number` in its cells of the ring.
@@ -101,10 +111,12 @@ impl<L: Line> Format<L> {
         requires room { self.now.depth * self.now.burst ≤ length ring.old }
         ensures { (block : List ℕ) × Interleaved L.Line self.now (map odd message.now) block × (ring.new ≡ stored self.now number block ring.old) }
     {
-        let run = self.protected(message);
+        let mut bits = [0; MOST_RUN];
+        let run = &mut bits[..self.message + self.parity];
+        write_run(message, self.parity, run);
         let coded = Coded {
             code: &self.code,
-            run: &run[..self.message + self.parity],
+            run,
         };
         let at = self.row(number);
         self.fill(&coded, &mut ring[at..at + self.burst]);

@@ -1,0 +1,120 @@
+-- Writing the lowest bits of a number, the highest first.
+use Rattle.std.proofs.Common.{◌≡◌, ℕ, zero, suc, ◌+◌, ◌-◌, ◌/◌, ◌^◌, ◌<◌, Bool, false, List, [], ◌∷◌, ◌++◌, length, get_or, map, reverse, set, take, drop, replicate, true, ap₂, refl, add-one, length-append, ◌≢◌, sym, ap, ◌∙◌, div-one, arith, below_more}
+use lib.Bits.{bit_and, and_mask}
+use Rattle.std.proofs.lemmas.List.{get_or-set_other, get_or-set_same, get_or-reverse, get_or-map, ext_get_or, length-map, map-append, map-id, reverse-append, append-nil, drop-replicate, drop_all, length-take-le, length-reverse}
+use Rattle.std.proofs.lemmas.Nat.{shr-shr}
+use Rattle.std.proofs.Math.Seq.{take-append_seam, drop-append_seam}
+use Rattle.std.proofs.lemmas.Grind.{replicate_next}
+use Rattle.std.proofs.lemmas.Simd.{map-map}
+use mathlib.Core.Path.{fun_ext}
+use lib.ListN.{length-replicate}
+use Rattle.trellis.specs.Parity.{remainder, parity_of, with_parity}
+use Rattle.trellis.specs.Bits.{odd, bit_of, bits}
+use Rattle.trellis.proofs.Bitwise.{bit_of_odd}
+use Rattle.trellis.proofs.Numbers.{bits_length}
+
+-- bit i of a number
+bits_at : (n v i : ℕ) → i < n → get_or (bits n v) i false ≡ odd (v / 2 ^ i)
+bits_at zero v i h = absurd (omega arith)
+bits_at (suc n) v zero h = ap odd (sym (div-one v))
+bits_at (suc n) v (suc i) h =
+    let on : 1 + i ≡ suc i = omega arith in
+    bits_at n (v / 2) i (omega arith) ∙ ap odd (shr-shr v 1 i ∙ ap (λ k. v / 2 ^ k) on)
+
+module _ (v n : ℕ) where
+  -- the n lowest bits, the highest first
+  abbrev written : List ℕ
+  written = map bit_of (reverse (bits n v))
+
+  -- the first of them are written
+  abbrev pub WrittenBelow : ℕ → List ℕ → Type 0
+  WrittenBelow place row = (i : ℕ) → i < place → get_or row i 0 ≡ get_or written i 0
+
+  -- the one at a place, read off the number
+  written_at : (place : ℕ) → place < n → bit_and (v / 2 ^ (n - 1 - place)) 1 ≡ get_or written place 0
+  written_at place h =
+      let long : length (bits n v) ≡ n = bits_length n v in
+      let inside : place < length (reverse (bits n v)) = simp length-reverse (omega arith) in
+      let from : length (bits n v) - 1 - place ≡ n - 1 - place = omega arith in
+      let i = n - 1 - place in
+      and_mask (v / 2 ^ i) 1
+      ∙ sym (bit_of_odd (v / 2 ^ i))
+      ∙ ap bit_of (sym (bits_at n v i (omega arith)))
+      ∙ ap (λ m. bit_of (get_or (bits n v) m false)) (sym from)
+      ∙ ap bit_of (sym (get_or-reverse (bits n v) place false (omega arith)))
+      ∙ sym (get_or-map bit_of (reverse (bits n v)) place false 0 inside)
+
+  -- one more
+  pub written_more : (place : ℕ) (row : List ℕ) → length row ≡ n → place < n → WrittenBelow place row →
+      WrittenBelow (place + 1) (set row place (bit_and (v / 2 ^ (n - 1 - place)) 1))
+  written_more place row whole h below =
+      let here : place < length row = omega arith in
+      let bit = bit_and (v / 2 ^ (n - 1 - place)) 1 in
+      below_more _ _
+      (λ i g. let other : i ≢ place = omega arith in get_or-set_other row place i bit 0 other ∙ below i g)
+      (get_or-set_same row place bit 0 here ∙ written_at place h)
+
+  -- all of them
+  pub written_all : (row : List ℕ) → length row ≡ n → WrittenBelow n row → row ≡ written
+  written_all row whole below =
+      let long : length written ≡ n = simp (length-map, length-reverse) (bits_length n v) in
+      ext_get_or 0 row written (omega arith) (λ i h. below i (omega arith))
+
+-- a bit written in a byte is read as itself
+odd_bits : (r : List Bool) → map odd (map bit_of r) ≡ r
+odd_bits r = map-map odd bit_of r ∙ ap (λ f. map f r) (fun_ext one) ∙ map-id r
+  where
+    one : (b : Bool) → odd (bit_of b) ≡ b
+    one true = refl
+    one false = refl
+
+-- zeros are even
+odd_zeros : (n : ℕ) → map odd (replicate n 0) ≡ replicate n false
+odd_zeros zero = refl
+odd_zeros (suc n) = ap (λ r. false ∷ r) (odd_zeros n)
+
+-- and are the same from the other end
+zeros_reversed : (n : ℕ) → reverse (replicate n false) ≡ replicate n false
+zeros_reversed zero = refl
+zeros_reversed (suc n) =
+    reverse-append (false ∷ []) (replicate n false)
+    ∙ ap (λ r. r ++ false ∷ []) (zeros_reversed n)
+    ∙ sym (replicate_next n false)
+    ∙ ap (λ m. replicate m false) (add-one n)
+
+module _ (message : List ℕ) (width : ℕ) where
+  -- a message with as many zeros after it as it has parity bits
+  abbrev spaced : List ℕ
+  spaced = message ++ replicate width 0
+
+  -- what it leaves is what its message leaves with as many zeros
+  spaced_reversed : reverse (map odd spaced) ≡ replicate width false ++ reverse (map odd message)
+  spaced_reversed =
+      ap reverse (map-append odd message (replicate width 0) ∙ ap (λ r. map odd message ++ r) (odd_zeros width))
+      ∙ reverse-append (map odd message) (replicate width false)
+      ∙ ap (λ r. r ++ reverse (map odd message)) (zeros_reversed width)
+
+  -- a run whose zeros are written over by what it leaves, bit by bit, is the message and its parity
+  pub run_written : (run front row : List ℕ) (left : ℕ) → run ≡ replicate (length message + width) 0 → front ≡ message →
+      left ≡ remainder (reverse (map odd (front ++ drop (length message) run))) →
+      row ≡ map bit_of (reverse (bits (length (take (length (front ++ drop (length message) run) - length message) (drop (length message) (front ++ drop (length message) run)))) left)) →
+      map odd (take (length message) (front ++ drop (length message) run)
+      ++ (row ++ drop (length (front ++ drop (length message) run) - length message) (drop (length message) (front ++ drop (length message) run)))) ≡ with_parity width (map odd message)
+  run_written run front row left zeros copied leaves bits_are =
+      let m = length message in
+      let none : List ℕ = replicate width 0 in
+      let wide : length none ≡ width = length-replicate {A = ℕ} width 0 in
+      let on : m + width - m ≡ width = omega arith in
+      let space : drop m run ≡ replicate width 0 = ap (drop m) zeros ∙ drop-replicate m (m + width) 0 ∙ ap (λ n. replicate n 0) on in
+      let whole : front ++ drop m run ≡ spaced = λ i. copied i ++ space i in
+      let back : drop m spaced ≡ replicate width 0 = drop-append_seam message (replicate width 0) in
+      let long : length spaced - m ≡ width = simp (length-append, length-replicate) on in
+      let part : length (take (length spaced - m) (drop m spaced)) ≡ width = (λ i. length (take (long i) (back i))) ∙ length-take-le width none (omega (arith, wide)) in
+      let past : drop (length spaced - m) (drop m spaced) ≡ [] = (λ i. drop (long i) (back i)) ∙ drop_all width none (omega (arith, wide)) in
+      let bytes : row ≡ map bit_of (parity_of width (map odd message)) = bits_are
+      ∙ (λ i. map bit_of (reverse (bits ((ap (λ xs. length (take (length xs - m) (drop m xs))) whole ∙ part) i) ((leaves ∙ ap (λ xs. remainder (reverse (map odd xs))) whole ∙ ap remainder spaced_reversed) i)))) in
+      ap (λ xs. map odd (take m xs ++ (row ++ drop (length xs - m) (drop m xs)))) whole
+      ∙ ap₂ (λ xs ys. map odd (xs ++ (row ++ ys))) (take-append_seam message (replicate width 0)) past
+      ∙ ap (λ xs. map odd (message ++ xs)) (append-nil row ∙ bytes)
+      ∙ map-append odd message (map bit_of (parity_of width (map odd message)))
+      ∙ ap (λ r. map odd message ++ r) (odd_bits (parity_of width (map odd message)))
