@@ -18,6 +18,15 @@ min_bits true false = refl
 min_bits false true = refl
 min_bits false false = refl
 
+-- two bits that make one sum with a third are one
+pub xor_same : (a b t : Bool) → xor a t ≡ xor b t → a ≡ b
+xor_same true true t e = refl
+xor_same false false t e = refl
+xor_same true false true e = sym e
+xor_same true false false e = e
+xor_same false true true e = sym e
+xor_same false true false e = e
+
 -- one more turns odd over
 odd_more : (n : ℕ) → odd (1 + n) ≡ not (odd n)
 odd_more n = grind (arith, nat_tests)

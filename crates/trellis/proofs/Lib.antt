@@ -1,5 +1,7 @@
 pub mod Answering
 pub mod Bitwise
+pub mod Cleans
+pub mod Coded
 pub mod Growing
 pub mod Leasts
 pub mod Numbers
