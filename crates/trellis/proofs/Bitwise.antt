@@ -1,5 +1,6 @@
 -- Bits as numbers, and odd numbers.
 use Rattle.std.proofs.Common.{◌≡◌, ℕ, suc, ◌+◌, ◌/◌, ◌%◌, ◌^◌, ◌<◌, min, Bool, true, false, not, ◌&&◌, sym, refl, ap, ◌∙◌, subst, inl, inr, arith}
+use lib.Bits.{bit_xor}
 use lib.Count.{ones}
 use mir.Val.{bool_byte}
 use Rattle.std.proofs.lemmas.Nat.{shr_below}
@@ -26,6 +27,17 @@ xor_same true false true e = sym e
 xor_same true false false e = e
 xor_same false true true e = sym e
 xor_same false true false e = e
+
+-- a bit and 0 make the bit
+pub xor_none : (b : Bool) → xor b false ≡ b
+xor_none true = refl
+xor_none false = refl
+
+-- the sum of two bits as numbers
+pub bit_of_xor : (a b : Bool) → bit_of (xor a b) ≡ bit_xor (bit_of a) (bit_of b)
+bit_of_xor true true = refl
+bit_of_xor true false = refl
+bit_of_xor false b = refl
 
 -- one more turns odd over
 odd_more : (n : ℕ) → odd (1 + n) ≡ not (odd n)

@@ -7,6 +7,7 @@ pub mod Decoding
 pub mod Met
 pub mod Parity
 pub mod Paths
+pub mod Polynomials
 pub mod Rule
 pub mod Tracing
 pub mod Windows
