@@ -1,4 +1,5 @@
 pub mod Best
+pub mod Clean
 pub mod Deciding
 pub mod Filling
 pub mod FirstRule

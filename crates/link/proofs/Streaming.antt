@@ -2,12 +2,13 @@
 use Rattle.std.proofs.Common.{◌≡◌, ℕ, ◌+◌, ◌-◌, ◌*◌, ◌%◌, ◌<◌, ◌≤◌, Bool, true, false, ◌&&◌, leb, List, [], ◌∷◌, ◌++◌, map, length, get_or, take, drop, Some, None, Ok, Err, Option, sym, refl, ap, ◌∙◌, subst, inl, inr, mod-lt, arith}
 use Rattle.std.specs.declared.convert.Infallible.{Infallible}
 use Rattle.std.proofs.Math.Seq.{take-append_seam}
-use Rattle.std.proofs.lemmas.Bool.{cases_eq, leb-true, le-leb, lt-leb}
-use Rattle.std.proofs.lemmas.List.{get_or_append_left, get_or_push, length_push}
+use Rattle.std.proofs.lemmas.Bool.{cases_eq, eqb-true, leb-true, le-leb, lt-leb}
+use Rattle.std.proofs.lemmas.List.{get_or_append_left, get_or_push, length-map, length_push}
 use Rattle.line.specs.declared.laying.Line as line
 use Rattle.line.specs.Lawful.{Laws}
 use Rattle.trellis.specs.Bits.{odd, xor, bit_of}
 use Rattle.trellis.specs.Coding.{coded_bit}
+use Rattle.trellis.proofs.Bitwise.{xor_none}
 use Rattle.link.specs.declared.format.Format.{Format}
 use Rattle.link.specs.declared.refusal.Refusal.{Refusal}
 use Rattle.link.specs.declared.sender.Sender.{Sender}
@@ -22,11 +23,6 @@ use Rattle.link.proofs.Rings.{stored_own, stored_other}
 read_bit : (x : Bool) → leb 1 (bit_of x) ≡ x
 read_bit true = refl
 read_bit false = refl
-
--- a 0 that is turned is the turn
-turned_none : (t : Bool) → xor t false ≡ t
-turned_none true = refl
-turned_none false = refl
 
 module _ {L : Type 0} {l : line.Ghosts L} (laws : Laws l) (f : Format L) (lays : f.burst ≡ l.sent f.line) where
   -- a burst place that is answered is one of the burst's
@@ -92,7 +88,7 @@ module _ {L : Type 0} {l : line.Ghosts L} (laws : Laws l) (f : Format L) (lays :
         ∙ ap (λ x. bit_of (xor turned x)) (carried_kept ring messages n b j k turned keeps many e due);
     before = λ j k turned e h.
         spread.bits j k turned e (within j k turned e)
-        ∙ ap (λ x. bit_of (xor turned x)) (carried_none ring n k h) ∙ ap bit_of (turned_none turned);
+        ∙ ap (λ x. bit_of (xor turned x)) (carried_none ring n k h) ∙ ap bit_of (xor_none turned);
   }
 
   -- which it stays when more messages are sent
@@ -110,6 +106,7 @@ module _ {L : Type 0} {l : line.Ghosts L} (laws : Laws l) (f : Format L) (lays :
     format : s.format ≡ f
     counted : s.counted ≡ length messages
     each : length bursts ≡ length messages
+    lengths : (b : ℕ) → b < length messages → length (get_or messages b []) ≡ f.message
     keeps : KeepsBlocks ring messages
     right : (n : ℕ) → n < length messages → BurstOf l f messages n (get_or bursts n [])
 
@@ -117,6 +114,12 @@ module _ {L : Type 0} {l : line.Ghosts L} (laws : Laws l) (f : Format L) (lays :
   room : (g : Format L) (m : SenderMemory) (counted : ℕ) (message : List ℕ) → first (send_rules {B = Infallible} g (sender_sizes m) counted message) ≡ None →
       g.depth * g.burst ≤ length m.ring
   room g m counted message e = leb-true (g.depth * g.burst) (length m.ring) (unless_none _ _ (first_none (send_rules {B = Infallible} g (sender_sizes m) counted message) e).0)
+
+  -- and the message is as long as the format has it
+  long : (g : Format L) (m : SenderMemory) (counted : ℕ) (message : List ℕ) → first (send_rules {B = Infallible} g (sender_sizes m) counted message) ≡ None →
+      length (map odd message) ≡ g.message
+  long g m counted message e =
+      length-map message odd ∙ eqb-true (length message) g.message (unless_none _ _ (first_none (send_rules {B = Infallible} g (sender_sizes m) counted message) e).1.1.1.0)
 
   -- one send
   module _ (s s' : Sender L) (message : List ℕ) (m m' : SenderMemory) (reply : SendReply) (messages : List (List Bool)) (bursts : List (List ℕ))
@@ -159,12 +162,22 @@ module _ {L : Type 0} {l : line.Ghosts L} (laws : Laws l) (f : Format L) (lays :
             subst (BurstOf l f messages' n) (sym read) (burst_stays messages (map odd message ∷ []) n (get_or bursts n []) early (before.right n early))
       ]
 
+      -- each message is as long as the format has it
+      lengths_more : (b : ℕ) → b < length messages' → length (get_or messages' b []) ≡ f.message
+      lengths_more b h = elim (cases_eq b (length messages)) [
+        | inl same ↦ ap length (get_or_push messages (map odd message) [] b (sym same)) ∙ long s.format m s.counted message none ∙ ap (λ g. g.message) before.format
+        | inr other ↦
+            let early : b < length messages = omega (arith, many) in
+            ap length (get_or_append_left messages (map odd message ∷ []) [] b early) ∙ before.lengths b early
+      ]
+
       -- the invariant is kept
       sent_invariant : Invariant s' m'.ring messages' (bursts ++ (take s.format.burst m'.burst ∷ []))
       sent_invariant = record {
         format = sent.format ∙ before.format;
         counted = sent.counted ∙ ap (λ n. n + 1) before.counted ∙ sym many;
         each = length_push bursts (take s.format.burst m'.burst) ∙ ap (λ n. n + 1) before.each ∙ sym many;
+        lengths = lengths_more;
         keeps = kept;
         right = right_more;
       }
@@ -199,6 +212,7 @@ module _ {L : Type 0} {l : line.Ghosts L} (laws : Laws l) (opened : Sender L) (l
     format = refl;
     counted = fresh;
     each = refl;
+    lengths = λ b h. absurd (omega arith);
     keeps = λ i j k turned h near e. absurd (omega arith);
     right = λ n h. absurd (omega arith);
   }
@@ -215,6 +229,7 @@ module _ {L : Type 0} {l : line.Ghosts L} (laws : Laws l) (opened : Sender L) (l
         (λ i. first (send_rules (before.format i) (sender_sizes m) (before.counted i) message))
         (sends_sound laws opened.format lays s s' message m m' reply messages bursts before
         (first (send_rules s.format (sender_sizes m) s.counted message)) refl step);
+    lengths = λ s ring messages bursts b past h. (invariant s ring messages bursts past).lengths b h;
     each = λ s ring messages bursts past. (invariant s ring messages bursts past).each;
     bursts = λ s ring messages bursts n past h. (invariant s ring messages bursts past).right n h;
   }

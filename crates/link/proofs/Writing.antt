@@ -61,12 +61,13 @@ module _ (v n : ℕ) where
       ext_get_or 0 row written (omega arith) (λ i h. below i (omega arith))
 
 -- a bit written in a byte is read as itself
+pub odd_bit : (b : Bool) → odd (bit_of b) ≡ b
+odd_bit true = refl
+odd_bit false = refl
+
+-- and so are bits
 odd_bits : (r : List Bool) → map odd (map bit_of r) ≡ r
-odd_bits r = map-map odd bit_of r ∙ ap (λ f. map f r) (fun_ext one) ∙ map-id r
-  where
-    one : (b : Bool) → odd (bit_of b) ≡ b
-    one true = refl
-    one false = refl
+odd_bits r = map-map odd bit_of r ∙ ap (λ f. map f r) (fun_ext odd_bit) ∙ map-id r
 
 -- zeros are even
 odd_zeros : (n : ℕ) → map odd (replicate n 0) ≡ replicate n false

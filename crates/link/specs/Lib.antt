@@ -1,3 +1,4 @@
+pub mod BothEnds
 pub mod Calls
 pub mod Due
 pub mod Histories

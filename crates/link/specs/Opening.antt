@@ -9,6 +9,7 @@ use Rattle.link.specs.declared.receiver.Receiver.{Receiver}
 use Rattle.link.specs.declared.refusal.Refusal.{Refusal}
 use Rattle.link.specs.declared.report.Report.{Report}
 use Rattle.link.specs.declared.sender.Sender.{Sender}
+use Rattle.link.specs.BothEnds.{AllAsSent}
 use Rattle.link.specs.Histories.{AllSound}
 use Rattle.link.specs.Rules.{first, open_rules}
 use Rattle.link.specs.Streams.{AllStreams}
@@ -28,12 +29,13 @@ Agrees l a (Err x) = first (open_rules l a) ≡ Some x
 Agrees {B} l a (Ok f) = (first (open_rules {B = B} l a) ≡ None) × Holds l a f
 
 module _ {C S P L : Type 0} (k : cost.Ghosts C S P) (l : line.Ghosts L) (a : Proposal L) where
-  -- a receiver that has counted nothing, and of which every history is sound
+  -- a receiver that has counted nothing, of which every history is sound, and which answers what it hears clean as it was sent
   pub record Opened (r : Receiver C L S P) : Type 0 where
     pub rules : first (open_rules {B = Report C S P} l a) ≡ None
     pub format : Holds l a r.format
     pub counted : r.counted ≡ 0
     pub histories : AllSound k l r
+    pub both_ends : AllAsSent k l r
 
   abbrev pub Opens : Result (Receiver C L S P) (Refusal (Report C S P)) → Type 0
   Opens (Err x) = first (open_rules l a) ≡ Some x

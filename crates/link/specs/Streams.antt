@@ -52,6 +52,9 @@ module _ {L : Type 0} (l : line.Ghosts L) where
     pub sends : (s s' : Sender L) (messages : List (List Bool)) (bursts : List (List ℕ)) (message : List ℕ) (m m' : SenderMemory) (reply : SendReply) →
         Stream opened s m.ring messages bursts → Sends l message s m reply s' m' →
         StreamSound opened.format (first (send_rules opened.format (sender_sizes m) (length messages) message)) message messages s m reply s' m'
+    -- each message sent is as long as the format has it
+    pub lengths : (s : Sender L) (ring : List ℕ) (messages : List (List Bool)) (bursts : List (List ℕ)) (b : ℕ) →
+        Stream opened s ring messages bursts → b < length messages → length (slice_index_or messages b []) ≡ opened.format.message
     -- as many bursts as messages have been sent
     pub each : (s : Sender L) (ring : List ℕ) (messages : List (List Bool)) (bursts : List (List ℕ)) →
         Stream opened s ring messages bursts → length bursts ≡ length messages

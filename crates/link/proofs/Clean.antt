@@ -1,0 +1,233 @@
+-- A block that is heard as it was sent is answered as it was sent.
+use Rattle.std.proofs.Common.{◌≡◌, ℕ, zero, suc, ◌+◌, ◌*◌, ◌%◌, ◌<◌, ◌≤◌, Bool, true, false, ◌||◌, cond, not, eqb, List, [], ◌∷◌, ◌++◌, map, reverse, length, get_or, take, drop, replicate, Some, None, Ok, Err, Option, ◌⊎◌, ◌≢◌, sym, refl, ap, ◌∙◌, subst, ap₂, inl, inr, mod-lt, arith}
+use Rattle.std.specs.List.{AllByRecursion, range_with_len, count_by}
+use lib.ListN.{length-replicate}
+use lib.Seq.{take_at, drop_at}
+use Rattle.std.proofs.Math.Bool.{or-true}
+use Rattle.std.proofs.lemmas.Bool.{and_parts, cases_lt, eqb-true, or_cases}
+use Rattle.std.proofs.lemmas.List.{length-take-le, reverse-append, reverse-reverse, take-append-le}
+use Rattle.std.proofs.lemmas.List.Sums.{sum_by-cons}
+use Rattle.cost.specs.declared.kind.Cost as cost
+use Rattle.cost.specs.Samples.{clean}
+use Rattle.cost.proofs.Lawful.{Laws, clean_heard}
+use Rattle.line.specs.declared.laying.Line as line
+use Rattle.line.specs.Lawful as lines
+use Rattle.trellis.specs.Bits.{odd, xor, bit_of}
+use Rattle.trellis.specs.Clean.{CleanOf, HeardClean as Answer}
+use Rattle.trellis.specs.Coding.{coded_bit}
+use Rattle.trellis.specs.Codes.{rows_of}
+use Rattle.trellis.specs.Parity.{remainder, parity_of, with_parity}
+use Rattle.trellis.proofs.Cleans.{heard_clean}
+use Rattle.trellis.proofs.Parities.{with_parity_length, parity_closes}
+use Rattle.trellis.proofs.Soundness.{sound_parts}
+use Rattle.link.specs.declared.format.Format.{Format}
+use Rattle.link.specs.declared.proposal.Proposal.{Proposal}
+use Rattle.link.specs.declared.receiver.Receiver.{Receiver}
+use Rattle.link.specs.declared.sender.Sender.{Sender}
+use Rattle.link.specs.declared.refusal.Refusal.TheVariants.{WrongParity}
+use Rattle.link.specs.declared.report.Answer.TheVariants.{Block}
+use Rattle.link.specs.BothEnds.{FirstRowSent, HeardClean, costless_report, AsSent, AllAsSent}
+use Rattle.link.specs.Calls.{right, written, Reply, answer_due, report_of, silence}
+use Rattle.link.specs.Due.{burst_of, placed, met_on, in_bursts, heard_of}
+use Rattle.link.specs.Histories.{Best, AllSound}
+use Rattle.link.specs.Opening.{Holds}
+use Rattle.link.specs.Rules.{first, open_rules, between, steps_of, steps}
+use Rattle.link.specs.Sending.{run_of}
+use Rattle.link.specs.Streams.{Stream, BurstOf}
+use Rattle.link.proofs.FirstRule.{first_none, unless_none}
+use Rattle.link.proofs.Streaming.{all_streams}
+use Rattle.link.proofs.Writing.{odd_bit}
+
+-- what both ends agree on, beside the format: what opening has checked of it
+pub record Agreed {L : Type 0} (l : line.Ghosts L) (f : Format L) : Type 0 where
+  pub rows : length (rows_of f.code) ≡ f.code.rows
+  pub lays : f.burst ≡ l.sent f.line
+  pub coded : l.coded f.line ≡ f.code.rows * steps f
+  pub parity : (f.parity ≡ 0) ⊎ (f.parity ≡ 16)
+
+-- a sum is the same either way
+xor_comm : (a b : Bool) → xor a b ≡ xor b a
+xor_comm true true = refl
+xor_comm true false = refl
+xor_comm false true = refl
+xor_comm false false = refl
+
+-- of numbers that all pass, all are counted
+count_all : (test : ℕ → Bool) (from n : ℕ) → ((i : ℕ) → i < from + n → test i ≡ true) → count_by test (range_with_len from n) ≡ n
+count_all test from zero all = refl
+count_all test from (suc n) all =
+    sum_by-cons (λ i. cond (test i) 1 0) from (range_with_len (from + 1) n)
+    ∙ ap₂ (λ (t : Bool) (m : ℕ). cond t 1 0 + m) (all from (omega arith)) (count_all test (from + 1) n (λ i h. all i (omega arith))) ∙ omega arith
+
+module _ {C S P L : Type 0} {k : cost.Ghosts C S P} (laws : Laws k) {l : line.Ghosts L} (line_laws : lines.Laws l) (f : Format L) (agreed : Agreed l f) where
+  -- a burst place that is answered is one of the burst's
+  within : (j p : ℕ) (turned : Bool) → l.place f.line j ≡ Some (p, turned) → p < f.burst
+  within j p turned e = let h = line_laws.within f.line j p turned e in omega (arith, agreed.lays)
+
+  module _ (bursts : List (List S)) (b : ℕ) (sent : List (List ℕ)) (c : ℕ) (messages : List (List Bool))
+      (right_bursts : (n : ℕ) → n < length sent → BurstOf l f messages n (get_or sent n [])) (heard : HeardClean k l f bursts b sent c) where
+    -- the samples due to the block
+    abbrev due : ℕ → S
+    due = in_bursts k f bursts b
+
+    -- the run sent
+    abbrev run : List Bool
+    run = run_of f (get_or messages c [])
+
+    -- the sample due where a coded bit is sent is the clean one of that bit, turned where it is turned
+    due_clean : (j p : ℕ) (turned : Bool) → l.place f.line j ≡ Some (p, turned) → due p ≡ clean k (xor (coded_bit f.code run j) turned)
+    due_clean j p turned e =
+        let inside = within j p turned e in
+        let low : p % f.depth < f.depth = mod-lt p (omega (arith, f.least_depth)) in
+        let n = burst_of f c p in
+        let carried = (right_bursts n (omega (arith, heard.ended))).carries j p c turned e refl in
+        heard.clean p inside
+        ∙ ap (λ byte. clean k (odd byte)) carried
+        ∙ ap (clean k) (odd_bit (xor turned (coded_bit f.code run j)) ∙ xor_comm turned (coded_bit f.code run j))
+
+    -- so what is met is clean
+    met_clean : CleanOf k (coded_bit f.code run) (met_on l f.line due)
+    met_clean j = by_place (l.place f.line j) refl
+      where
+        by_place : (at : Option (ℕ × Bool)) → l.place f.line j ≡ at → AllByRecursion (λ m. m.0 ≡ clean k (xor (coded_bit f.code run j) m.1)) (placed due at)
+        by_place None e = tt
+        by_place (Some (p, turned)) e = (due_clean j p turned e, tt)
+
+    -- what a coded bit that is sent meets is not nothing
+    met_some : (j p : ℕ) (turned : Bool) → l.place f.line j ≡ Some (p, turned) → met_on l f.line due j ≢ []
+    met_some j p turned e none = let is : ◌≡◌ {A = List (S × Bool)} ((due p, turned) ∷ []) [] = sym (ap (placed due) e) ∙ none in absurd (let z : ◌≡◌ {A = ℕ} 0 1 = cc in omega arith)
+
+    -- every place was heard
+    all_heard : heard_of k due f.burst ≡ f.burst
+    all_heard = count_all (λ p. not (k.silent (due p))) 0 f.burst
+        (λ p below. let h : p < f.burst = omega arith in ap (λ s. not (k.silent s)) (heard.clean p h) ∙ ap not (clean_heard laws (odd (get_or (get_or sent (burst_of f c p) []) p 0))))
+
+    module _ (whole : length (get_or messages c []) ≡ f.message) where
+      -- the message sent
+      abbrev message : List Bool
+      message = get_or messages c []
+
+      -- the run has its length
+      run_long : length run + f.code.memory ≡ steps f
+      run_long = let long = with_parity_length f.parity message in omega (arith, long, whole)
+
+      module _ (path : List Bool) (answered : answer_due k l f due ≡ Some path) where
+        -- what the rule's answer is
+        answer : Answer k f.code (met_on l f.line due) (steps f) run path
+        answer = heard_clean laws f.code f.codes agreed.rows (met_on l f.line due) (steps f) run path run_long met_clean answered
+
+        -- it sends the same bits
+        same_bits : (j p : ℕ) (turned : Bool) → l.place f.line j ≡ Some (p, turned) → coded_bit f.code (reverse path) j ≡ coded_bit f.code run j
+        same_bits j p turned e = answer.as_sent j (below (cases_lt j (l.coded f.line))) (met_some j p turned e)
+          where
+            below : ((j < l.coded f.line) ⊎ (l.coded f.line ≤ j)) → j < f.code.rows * steps f
+            below (inl h) = omega (arith, h, agreed.coded)
+            below (inr h) = let unsent = line_laws.ended f.line j h in absurd (let z : ◌≡◌ {A = ℕ} 0 1 = cc in omega arith)
+
+        -- where every first-row bit is sent, it is the run
+        same_run : FirstRowSent l f → path ≡ replicate f.code.memory false ++ reverse run
+        same_run first_row = answer.whole (λ t h. let at = first_row t h in met_some (f.code.rows * t) at.0 at.1 at.2)
+
+        module _ (is : path ≡ replicate f.code.memory false ++ reverse run) where
+          -- of which parity is right
+          run_right : right f path ≡ true
+          run_right = by_parity agreed.parity
+            where
+              bits : drop f.code.memory path ≡ reverse run
+              bits = ap (drop f.code.memory) is ∙ drop_at (replicate f.code.memory false) (reverse run) f.code.memory (length-replicate f.code.memory false)
+
+              by_parity : ((f.parity ≡ 0) ⊎ (f.parity ≡ 16)) → right f path ≡ true
+              by_parity (inl none) = ap (λ n. eqb n 0 || eqb (remainder (drop f.code.memory path)) 0) none
+              by_parity (inr wide) =
+                  let leaves : remainder (drop f.code.memory path) ≡ 0 = ap remainder bits ∙ ap (λ w. remainder (reverse (with_parity w message))) wide ∙ parity_closes message in
+                  ap (λ n. eqb f.parity 0 || eqb n 0) leaves ∙ or-true (eqb f.parity 0)
+
+          -- and the message is the one sent
+          run_message : (block : List ℕ) → written f path block ≡ map bit_of message ++ drop f.message block
+          run_message block =
+              let back : reverse path ≡ run ++ reverse (replicate f.code.memory false) =
+                  ap reverse is ∙ reverse-append (replicate f.code.memory false) (reverse run) ∙ ap (λ r. r ++ reverse (replicate f.code.memory false)) (reverse-reverse run) in
+              let long : f.message ≤ length run = let wide = with_parity_length f.parity message in omega (arith, wide, whole) in
+              let front : take f.message (reverse path) ≡ message =
+                  ap (take f.message) back ∙ take-append-le f.message run (reverse (replicate f.code.memory false)) long
+                  ∙ take_at message (parity_of f.parity message) f.message whole in
+              ap (λ bits. map bit_of bits ++ drop f.message block) front
+
+      -- so it is answered as it was sent
+      pub as_sent : (block : List ℕ) (reply : Reply k l) (block' : List ℕ) → Best k l f bursts b block reply block' → AsSent k l f bursts b message block reply block'
+      as_sent block reply block' best = record {
+        path = best.path;
+        rule = best.rule;
+        costless = own.costless;
+        same = same_bits best.path best.rule;
+        told = (replies (right f best.path) refl).0;
+        wrote = (replies (right f best.path) refl).1;
+        whole = λ first_row. let is = same_run best.path best.rule first_row in (is, run_right best.path best.rule is);
+        reported = λ first_row.
+            let is = same_run best.path best.rule first_row in
+            let now = best.reported (run_right best.path best.rule is) in
+            (now.0 ∙ ap (λ r. Ok (Block r)) tells, now.1 ∙ run_message best.path best.rule is block);
+      }
+        where
+          own : Answer k f.code (met_on l f.line due) (steps f) run best.path
+          own = answer best.path best.rule
+
+          tells : report_of k l f due b best.path ≡ costless_report k l f b
+          tells = λ i. record { block = b; cost = own.costless i; heard = all_heard i }
+
+          replies : (t : Bool) → right f best.path ≡ t →
+              (reply ≡ cond t (Ok (Block (costless_report k l f b))) (Err (WrongParity (costless_report k l f b)))) × (block' ≡ cond t (written f best.path block) block)
+          replies true e = let now = best.reported e in (now.0 ∙ ap (λ r. Ok (Block r)) tells, now.1)
+          replies false e = let now = best.refused e in (now.0 ∙ ap (λ r. Err (WrongParity r)) tells, now.1)
+
+-- what opening has checked is what both ends agree on
+pub agreed_on : {B L : Type 0} (l : line.Ghosts L) (a : Proposal L) (f : Format L) → length a.code.taps ≡ 5 → first (open_rules {B = B} l a) ≡ None → Holds l a f → Agreed l f
+agreed_on {B} l a f five none holds =
+    let rules = first_none (open_rules {B = B} l a) none in
+    let coded = a.code.rows * steps_of a.code a.message a.parity in
+    let lengths = and_parts (between 1 512 a.message) _ (unless_none _ _ rules.1.0) in
+    let parity = and_parts (eqb a.parity 0 || eqb a.parity 16) _ lengths.1 in
+    let lays = and_parts (l.suited a.line) _ (unless_none _ _ rules.1.1.0) in
+    let sizes = and_parts (between 1 2048 (l.coded a.line)) _ lays.1 in
+    let size = and_parts (between 1 1024 (l.sent a.line)) (eqb (l.coded a.line) coded) sizes.1 in
+    let code = sound_parts f.code f.codes in
+    let taps : length f.code.taps ≡ 5 = ap (λ c. length c.taps) holds.code ∙ five in
+    record {
+      rows = length-take-le f.code.rows f.code.taps (omega (arith, code.rows_few, taps));
+      lays = holds.burst ∙ ap l.sent (sym holds.line);
+      coded = ap l.coded holds.line ∙ eqb-true (l.coded a.line) coded size.1
+          ∙ (λ i. (sym holds.code i).rows * steps_of (sym holds.code i) (sym holds.message i) (sym holds.parity i));
+      parity = elim (or_cases (eqb a.parity 0) (eqb a.parity 16) parity.0) [
+        | inl e ↦ inl (holds.parity ∙ eqb-true a.parity 0 e)
+        | inr e ↦ inr (holds.parity ∙ eqb-true a.parity 16 e)
+      ];
+    }
+
+module _ {C S P L : Type 0} {k : cost.Ghosts C S P} (laws : Laws k) {l : line.Ghosts L} (line_laws : lines.Laws l) (opened : Receiver C L S P)
+    (agreed : Agreed l opened.format) (sound : AllSound k l opened) where
+  -- a block that is told as claimed, heard as a sender opened alike sent it, is answered as it was sent
+  told_as_sent : (begun s : Sender L) (ring : List ℕ) (messages : List (List Bool)) (sent : List (List ℕ)) → begun.format ≡ opened.format → begun.counted ≡ 0 →
+      Stream l begun s ring messages sent → (bursts : List (List S)) (b c : ℕ) → HeardClean k l opened.format bursts b sent c →
+      (block : List ℕ) (reply : Reply k l) (block' : List ℕ) → Best k l opened.format bursts b block reply block' →
+      AsSent k l opened.format bursts b (get_or messages c []) block reply block'
+  told_as_sent begun s ring messages sent same fresh stream bursts b c heard =
+      let f = opened.format in
+      let lays : begun.format.burst ≡ l.sent begun.format.line = subst (λ g. g.burst ≡ l.sent g.line) (sym same) agreed.lays in
+      let streams = all_streams line_laws begun lays fresh in
+      let each = streams.each s ring messages sent stream in
+      let some = f.least_depth in
+      let within : c < length messages = omega (arith, each, heard.ended) in
+      as_sent laws line_laws f agreed bursts b sent c messages
+      (λ n h. let early : n < length messages = omega (arith, each) in subst (λ g. BurstOf l g messages n (get_or sent n [])) same (streams.bursts s ring messages sent n stream early))
+      heard (streams.lengths s ring messages sent c stream within ∙ ap (λ g. g.message) same)
+
+  -- so every block that is heard clean is
+  pub all_as_sent : AllAsSent k l opened
+  all_as_sent = record {
+    hears = λ begun s ring messages sent same fresh stream r r' bursts samples m m' reply past hears none b c ends heard.
+        told_as_sent begun s ring messages sent same fresh stream (bursts ++ (samples ∷ [])) b c heard m.block reply m'.block
+        ((sound.hears r r' bursts samples m m' reply past hears).decides none b ends);
+    misses = λ begun s ring messages sent same fresh stream r r' bursts m m' reply past misses none b c ends heard.
+        told_as_sent begun s ring messages sent same fresh stream (bursts ++ (silence k l opened.format ∷ [])) b c heard m.block reply m'.block
+        ((sound.misses r r' bursts m m' reply past misses).decides none b ends);
+  }

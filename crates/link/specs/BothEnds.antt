@@ -1,0 +1,68 @@
+-- Both ends together: what a receiver answers on a block that was heard as a sender sent it.
+use Rattle.std.specs.Prelude.{◌≡◌, ℕ, ◌+◌, ◌*◌, ◌<◌, ◌≤◌, Bool, true, false, cond, List, [], ◌∷◌, ◌++◌, map, reverse, length, drop, replicate, Some, None, Ok, Err, slice_index_or}
+use Rattle.cost.specs.declared.kind.Cost as cost
+use Rattle.cost.specs.Samples.{clean}
+use Rattle.line.specs.declared.laying.Line as line
+use Rattle.trellis.specs.Bits.{odd, bit_of}
+use Rattle.trellis.specs.Coding.{coded_bit}
+use Rattle.link.specs.declared.format.Format.{Format}
+use Rattle.link.specs.declared.receiver.Receiver.{Receiver}
+use Rattle.link.specs.declared.refusal.Refusal.TheVariants.{WrongParity}
+use Rattle.link.specs.declared.report.Answer.TheVariants.{Block}
+use Rattle.link.specs.declared.report.Report.{Report}
+use Rattle.link.specs.declared.sender.Sender.{Sender}
+use Rattle.link.specs.Calls.{Memory, sizes, right, written, Reply, cost_due, answer_due, Hears, Misses, silence}
+use Rattle.link.specs.Due.{burst_of, in_bursts}
+use Rattle.link.specs.Histories.{History}
+use Rattle.link.specs.Rules.{first, steps, hear_rules, miss_rules}
+use Rattle.link.specs.Sending.{run_of}
+use Rattle.link.specs.Streams.{Stream}
+
+-- the first coded bit of every step is sent
+abbrev pub FirstRowSent : {L : Type 0} → line.Ghosts L → Format L → Type 0
+FirstRowSent l f = (t : ℕ) → t < steps f → (p : ℕ) × (turned : Bool) × (l.place f.line (f.code.rows * t) ≡ Some (p, turned))
+
+module _ {C S P L : Type 0} (k : cost.Ghosts C S P) (l : line.Ghosts L) where
+  -- block b of the bursts counted was heard clean as block c of the bursts sent; what was heard at places that are not due to b is free
+  pub record HeardClean (f : Format L) (bursts : List (List S)) (b : ℕ) (sent : List (List ℕ)) (c : ℕ) : Type 0 where
+    -- c's last burst was sent
+    pub ended : c + f.depth ≤ length sent
+    -- and the sample due to b at each place is the clean one of the bit that was put there
+    pub clean : (p : ℕ) → p < f.burst → in_bursts k f bursts b p ≡ clean k (odd (slice_index_or (slice_index_or sent (burst_of f c p) []) p 0))
+
+  -- what is told of a block that costs nothing and of which every place was heard
+  abbrev pub costless_report : Format L → ℕ → Report C S P
+  costless_report f b = record { block = b; cost = k.ZERO; heard = f.burst }
+
+  -- block b is answered as the message was sent
+  pub record AsSent (f : Format L) (bursts : List (List S)) (b : ℕ) (message : List Bool) (block : List ℕ) (reply : Reply k l) (block' : List ℕ) : Type 0 where
+    pub path : List Bool
+    -- it is the trellis rule's answer
+    pub rule : answer_due k l f (in_bursts k f bursts b) ≡ Some path
+    -- it costs zero
+    pub costless : cost_due k l f (in_bursts k f bursts b) path ≡ k.ZERO
+    -- and would send the same bits: those of the message, at each place that is sent
+    pub same : (j p : ℕ) (turned : Bool) → l.place f.line j ≡ Some (p, turned) → coded_bit f.code (reverse path) j ≡ coded_bit f.code (run_of f message) j
+    -- that is told, with every place heard
+    pub told : reply ≡ cond (right f path) (Ok (Block (costless_report f b))) (Err (WrongParity (costless_report f b)))
+    pub wrote : block' ≡ cond (right f path) (written f path block) block
+    -- where every first-row bit is sent, it is the run that was sent, so its parity is right
+    pub whole : FirstRowSent l f → (path ≡ replicate f.code.memory false ++ reverse (run_of f message)) × (right f path ≡ true)
+    -- and the message is reported
+    pub reported : FirstRowSent l f → (reply ≡ Ok (Block (costless_report f b))) × (block' ≡ map bit_of message ++ drop f.message block)
+
+  -- whatever a sender opened alike has sent, and whatever calls came before, a block that was heard clean is answered as it was sent
+  pub record AllAsSent (opened : Receiver C L S P) : Type 0 where
+    pub hears : (begun s : Sender L) (sender_ring : List ℕ) (messages : List (List Bool)) (sent : List (List ℕ)) →
+        begun.format ≡ opened.format → begun.counted ≡ 0 → Stream l begun s sender_ring messages sent →
+        (r r' : Receiver C L S P) (bursts : List (List S)) (samples : List S) (m m' : Memory S P) (reply : Reply k l) →
+        History k l opened r m.ring bursts → Hears k l samples r m reply r' m' → first (hear_rules k opened.format (sizes m) (length bursts) samples) ≡ None →
+        (b c : ℕ) → b + opened.format.depth ≡ length bursts + 1 → HeardClean opened.format (bursts ++ (samples ∷ [])) b sent c →
+        AsSent opened.format (bursts ++ (samples ∷ [])) b (slice_index_or messages c []) m.block reply m'.block
+    -- the last burst may be missed, where no place of it is due to the block
+    pub misses : (begun s : Sender L) (sender_ring : List ℕ) (messages : List (List Bool)) (sent : List (List ℕ)) →
+        begun.format ≡ opened.format → begun.counted ≡ 0 → Stream l begun s sender_ring messages sent →
+        (r r' : Receiver C L S P) (bursts : List (List S)) (m m' : Memory S P) (reply : Reply k l) →
+        History k l opened r m.ring bursts → Misses k l r m reply r' m' → first (miss_rules {B = Report C S P} opened.format (sizes m) (length bursts)) ≡ None →
+        (b c : ℕ) → b + opened.format.depth ≡ length bursts + 1 → HeardClean opened.format (bursts ++ (silence k l opened.format ∷ [])) b sent c →
+        AsSent opened.format (bursts ++ (silence k l opened.format ∷ [])) b (slice_index_or messages c []) m.block reply m'.block
