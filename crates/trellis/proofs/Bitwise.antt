@@ -1,9 +1,9 @@
 -- Bits as numbers, and odd numbers.
-use Rattle.std.proofs.Common.{◌≡◌, ℕ, suc, ◌+◌, ◌/◌, ◌%◌, ◌^◌, ◌<◌, min, Bool, true, false, not, ◌&&◌, sym, refl, ap, ◌∙◌, subst, inl, inr, arith}
-use lib.Bits.{bit_xor}
+use Rattle.std.proofs.Common.{◌≡◌, ℕ, suc, ◌+◌, ◌*◌, ◌/◌, ◌%◌, ◌^◌, ◌<◌, min, Bool, true, false, not, ◌&&◌, eqb, sym, refl, ap, ◌∙◌, subst, ap₂, inl, inr, arith}
+use lib.Bits.{bit_xor, xor_mod}
 use lib.Count.{ones}
 use mir.Val.{bool_byte}
-use Rattle.std.proofs.lemmas.Nat.{shr_below}
+use Rattle.std.proofs.lemmas.Nat.{mod-mul-add, shr_below}
 use Rattle.std.proofs.lemmas.Bool.Decides.{eqb_tells, nat_tests}
 use Rattle.trellis.specs.Bits.{odd, xor, bit_of}
 
@@ -39,6 +39,22 @@ bit_of_xor true true = refl
 bit_of_xor true false = refl
 bit_of_xor false b = refl
 
+-- of three bits the second goes over to the first
+pub xor_over : (a b c : Bool) → xor a (xor b c) ≡ xor (xor b a) c
+xor_over true true true = refl
+xor_over true true false = refl
+xor_over true false c = refl
+xor_over false b c = ap (λ x. xor x c) (sym (xor_none b))
+
+-- a bit that is written as 1 is 1
+bit_is : (b : Bool) → eqb (bit_of b) 1 ≡ b
+bit_is true = refl
+bit_is false = refl
+
+-- a bit below a number's bits is its lowest
+pub odd_below : (v : ℕ) (b : Bool) → odd (v * 2 + bit_of b) ≡ b
+odd_below v b = ap (λ r. eqb r 1) (mod-mul-add v 2 (bit_of b) (bit_below b)) ∙ bit_is b
+
 -- one more turns odd over
 odd_more : (n : ℕ) → odd (1 + n) ≡ not (odd n)
 odd_more n = grind (arith, nat_tests)
@@ -51,6 +67,12 @@ odd_add false n = let e : 0 + n ≡ n = omega arith in ap odd e
 -- the bit of a number that tells whether it is odd is its remainder by 2
 pub bit_of_odd : (n : ℕ) → bit_of (odd n) ≡ n % 2
 bit_of_odd n = elim (eqb_tells (n % 2) 1) [ inl h ↦ ap bit_of h.0 ∙ sym h.1 | inr h ↦ let z : 0 ≡ n % 2 = omega (arith, h.1) in ap bit_of h.0 ∙ z ]
+
+-- of the sum of two numbers the lowest bit is the sum of theirs
+pub odd_xor : (u v : ℕ) → odd (bit_xor u v) ≡ xor (odd u) (odd v)
+odd_xor u v =
+    ap (λ r. eqb r 1) (xor_mod u v 1 ∙ ap₂ bit_xor (sym (bit_of_odd u)) (sym (bit_of_odd v)) ∙ sym (bit_of_xor (odd u) (odd v)))
+    ∙ bit_is (xor (odd u) (odd v))
 
 -- a bool's byte is its bit
 pub byte_bit : (b : Bool) → bool_byte b ≡ bit_of b

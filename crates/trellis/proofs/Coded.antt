@@ -32,7 +32,7 @@ entered_path b (c ∷ p) =
     (entered_before (reverse (c ∷ p)) b (length p) (omega arith) ∙ entered_path c p)
 
 -- a zero after the end of a run is what enters without it
-zero_after : (run : List Bool) (i : ℕ) → get_or (run ++ false ∷ []) i false ≡ get_or run i false
+pub zero_after : (run : List Bool) (i : ℕ) → get_or (run ++ false ∷ []) i false ≡ get_or run i false
 zero_after [] zero = refl
 zero_after [] (suc i) = refl
 zero_after (b ∷ run) zero = refl

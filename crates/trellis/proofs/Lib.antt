@@ -2,6 +2,7 @@ pub mod Answering
 pub mod Bitwise
 pub mod Cleans
 pub mod Coded
+pub mod Divisions
 pub mod Growing
 pub mod Leasts
 pub mod Numbers

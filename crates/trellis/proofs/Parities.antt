@@ -1,17 +1,17 @@
--- Remainders of runs, a bit at a time.
+-- Remainders of runs: with one bit more, of sums, and with the parity.
 use Rattle.std.proofs.Common.{Bool, false, ◌≡◌, ℕ, zero, suc, ◌+◌, ◌-◌, ◌*◌, ◌/◌, ◌%◌, ◌^◌, ◌<◌, ◌≤◌, leb, List, [], ◌∷◌, ◌++◌, map, reverse, replicate, length, fold, sym, refl, ap, ◌∙◌, ap₂, inl, inr, mod-eq_of_lt, arith, pow_mono}
 use mathlib.Core.List.{reverse_aux}
 use lib.Bits.{bit_and, bit_or, bit_xor, and_mask, or_shifted, xor_assoc, xor_block, xor_comm, xor_lt, xor_self, xor_zero_r}
 use Rattle.std.proofs.lemmas.List.{length-append, length-reverse, reverse-append, reverse-reverse}
 use Rattle.std.proofs.lemmas.Bool.{cases_lt, cond-false, cond-true, cond_both, le-leb, leb-true, leb-false, lt-leb}
-use Rattle.trellis.specs.Bits.{odd, xor, bit_of, bits}
+use Rattle.trellis.specs.Bits.{odd, bit_of, bits}
 use Rattle.trellis.specs.Parity.{reduced, remainder, parity_of, with_parity}
 use Rattle.trellis.specs.Polynomials.{plus}
 use Rattle.trellis.proofs.Bitwise.{bit_below, bit_of_odd, bit_of_xor, half_below, xor_none}
 use Rattle.trellis.proofs.Numbers.{bits_length}
 
 -- two numbers with the power 16 and none above make one without it
-xor_clears : (u v : ℕ) → 65536 ≤ u → u < 131072 → 65536 ≤ v → v < 131072 → bit_xor u v < 65536
+pub xor_clears : (u v : ℕ) → 65536 ≤ u → u < 131072 → 65536 ≤ v → v < 131072 → bit_xor u v < 65536
 xor_clears u v hu bu hv bv =
     let left : u ≡ 1 * 2 ^ 16 + (u - 65536) = omega arith in
     let right : v ≡ 1 * 2 ^ 16 + (v - 65536) = omega arith in
@@ -27,11 +27,11 @@ xor_keeps u v h hv bv =
     let low : v - 65536 < 2 ^ 16 = omega arith in
     omega (arith, ap₂ bit_xor left right, xor_block 16 0 1 u (v - 65536) h low)
 
-reduced_low : (v : ℕ) → v < 65536 → reduced v ≡ v
-reduced_low v h = cond-false (leb 65536 v) (bit_xor v 69665) v (lt-leb 65536 v h)
+pub reduced_low : (v : ℕ) → v < 65536 → reduced v ≡ v
+reduced_low v h = cond-false (leb 65536 v) (bit_xor v 0x11021) v (lt-leb 65536 v h)
 
-reduced_high : (v : ℕ) → 65536 ≤ v → reduced v ≡ bit_xor v 69665
-reduced_high v h = cond-true (leb 65536 v) (bit_xor v 69665) v (le-leb 65536 v h)
+pub reduced_high : (v : ℕ) → 65536 ≤ v → reduced v ≡ bit_xor v 0x11021
+reduced_high v h = cond-true (leb 65536 v) (bit_xor v 0x11021) v (le-leb 65536 v h)
 
 -- taken away from both, a third number cancels
 xor_cancels : (u v g : ℕ) → bit_xor (bit_xor u g) (bit_xor v g) ≡ bit_xor u v
@@ -47,13 +47,13 @@ reduced_sum u v bu bv = elim (cases_lt u 65536) [
   ]
   | inr hu ↦ elim (cases_lt v 65536) [
     | inl lv ↦ ap reduced (xor_comm u v) ∙ one_high v u lv hu bu ∙ xor_comm (reduced v) (reduced u)
-    | inr hv ↦ reduced_low (bit_xor u v) (xor_clears u v hu bu hv bv) ∙ sym (ap₂ bit_xor (reduced_high u hu) (reduced_high v hv) ∙ xor_cancels u v 69665)
+    | inr hv ↦ reduced_low (bit_xor u v) (xor_clears u v hu bu hv bv) ∙ sym (ap₂ bit_xor (reduced_high u hu) (reduced_high v hv) ∙ xor_cancels u v 0x11021)
   ]
 ]
   where
     one_high : (a b : ℕ) → a < 65536 → 65536 ≤ b → b < 131072 → reduced (bit_xor a b) ≡ bit_xor (reduced a) (reduced b)
     one_high a b la hb bb =
-        reduced_high (bit_xor a b) (xor_keeps a b la hb bb) ∙ xor_assoc a b 69665 ∙ sym (ap₂ bit_xor (reduced_low a la) (reduced_high b hb))
+        reduced_high (bit_xor a b) (xor_keeps a b la hb bb) ∙ xor_assoc a b 0x11021 ∙ sym (ap₂ bit_xor (reduced_low a la) (reduced_high b hb))
 
 -- a remainder has no power from 16 on
 pub remainder_below : (p : List Bool) → remainder p < 65536
@@ -62,7 +62,7 @@ remainder_below [] = omega arith
 remainder_below (b ∷ p) =
     let v = remainder p * 2 + bit_of b in
     let room : v < 131072 = omega (arith, remainder_below p, bit_below b) in
-    cond_both (leb 65536 v) (bit_xor v 69665) v (λ n. n < 65536) (λ t. xor_clears v 69665 (leb-true 65536 v t) room (omega arith) (omega arith)) (λ f. leb-false 65536 v f)
+    cond_both (leb 65536 v) (bit_xor v 0x11021) v (λ n. n < 65536) (λ t. xor_clears v 0x11021 (leb-true 65536 v t) room (omega arith) (omega arith)) (λ f. leb-false 65536 v f)
 
 -- what the next byte of a run makes of the remainder before it
 abbrev pub next : ℕ → ℕ → ℕ
@@ -112,7 +112,7 @@ bits_over zero v p = refl
 bits_over (suc n) v p = ap₂ (λ (b : Bool) (r : List Bool). b ∷ r) (sym (xor_none (odd v))) (bits_over n (v / 2) p)
 
 -- so the remainder of both is that of the path, as many powers up, with the number that they write taken away
-remainder_over : (n v : ℕ) (p : List Bool) → n ≤ 16 → v < 2 ^ n → remainder (bits n v ++ p) ≡ bit_xor v (remainder (replicate n false ++ p))
+pub remainder_over : (n v : ℕ) (p : List Bool) → n ≤ 16 → v < 2 ^ n → remainder (bits n v ++ p) ≡ bit_xor v (remainder (replicate n false ++ p))
 remainder_over n v p few h =
     ap remainder (bits_over n v p) ∙ remainder_plus (bits n v) (replicate n false ++ p) ∙ ap (λ r. bit_xor r (remainder (replicate n false ++ p))) (remainder_bits n v few h)
 

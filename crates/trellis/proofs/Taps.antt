@@ -1,31 +1,25 @@
 -- Sums over taps, by the numbers that hold the taps and the window.
-use Rattle.std.proofs.Common.{◌≡◌, ℕ, zero, suc, ◌+◌, ◌-◌, ◌*◌, ◌/◌, ◌%◌, ◌^◌, ◌<◌, ◌≤◌, eqb, Bool, true, false, List, [], ◌∷◌, length, get_or, sym, refl, ap, ◌∙◌, subst, ap₂, mod-eq_of_lt, arith, pow_mono}
+use Rattle.std.proofs.Common.{◌≡◌, ℕ, zero, suc, ◌+◌, ◌-◌, ◌*◌, ◌/◌, ◌%◌, ◌^◌, ◌<◌, ◌≤◌, Bool, false, List, [], ◌∷◌, length, get_or, sym, refl, ap, ◌∙◌, subst, ap₂, mod-eq_of_lt, arith, pow_mono}
 use lib.Bits.{bit_or, or_shifted}
 use mir.Val.{bool_byte}
-use Rattle.std.proofs.lemmas.Nat.{div-mul-add, mod-mul-add, pow-add}
+use Rattle.std.proofs.lemmas.Nat.{div-mul-add, pow-add}
 use Rattle.std.proofs.lemmas.List.{get_or_past}
-use Rattle.trellis.specs.Bits.{odd, bit_of, bits}
+use Rattle.trellis.specs.Bits.{bit_of, bits}
 use Rattle.trellis.specs.Codes.{summed}
 use Rattle.trellis.specs.Coding.{packed, entered}
 use Rattle.trellis.specs.Paths.{register}
-use Rattle.trellis.proofs.Bitwise.{bit_below, byte_bit}
+use Rattle.trellis.proofs.Bitwise.{bit_below, byte_bit, odd_below}
 use Rattle.trellis.proofs.Registers.{register_length, summed_register}
 
 -- the number that bits write has those bits
-bits_packed : (r : List Bool) → bits (length r) (packed r) ≡ r
+pub bits_packed : (r : List Bool) → bits (length r) (packed r) ≡ r
 bits_packed [] = refl
 bits_packed (b ∷ r) =
-    let v = packed (b ∷ r) in
-    let low : odd v ≡ b = ap (λ n. eqb n 1) (mod-mul-add (packed r) 2 (bit_of b) (bit_below b)) ∙ odd_bit b in
-    let high : v / 2 ≡ packed r = div-mul-add (packed r) 2 (bit_of b) (bit_below b) in
-    ap₂ (λ (x : Bool) (xs : List Bool). x ∷ xs) low (ap (bits (length r)) high ∙ bits_packed r)
-  where
-    odd_bit : (b : Bool) → eqb (bit_of b) 1 ≡ b
-    odd_bit true = refl
-    odd_bit false = refl
+    let high : packed (b ∷ r) / 2 ≡ packed r = div-mul-add (packed r) 2 (bit_of b) (bit_below b) in
+    ap₂ (λ (x : Bool) (xs : List Bool). x ∷ xs) (odd_below (packed r) b) (ap (bits (length r)) high ∙ bits_packed r)
 
 -- bits write a number below the power of their count
-packed_below : (r : List Bool) → packed r < 2 ^ length r
+pub packed_below : (r : List Bool) → packed r < 2 ^ length r
 packed_below [] = omega arith
 packed_below (b ∷ r) =
     let low = bit_below b in
