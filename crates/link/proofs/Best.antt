@@ -1,12 +1,12 @@
 -- A block that is decided on the samples due in the list of bursts is told as claimed: by the rule's answer, which costs least.
-use Rattle.std.proofs.Common.{◌≡◌, ℕ, ◌+◌, Bool, true, false, List, ◌++◌, reverse, length, drop, replicate, Some, sym, ap, ◌∙◌, subst, arith}
+use Rattle.std.proofs.Common.{◌≡◌, ℕ, ◌+◌, Bool, true, false, List, ◌++◌, reverse, length, drop, replicate, Some, sym, ap, ◌∙◌, arith}
 use Rattle.std.proofs.lemmas.List.{length-drop, length-reverse, reverse-reverse}
 use Rattle.std.proofs.lemmas.Bool.{cond-true, cond-false}
 use Rattle.cost.specs.declared.kind.Cost as cost
 use Rattle.cost.proofs.Lawful.{Laws}
 use Rattle.line.specs.declared.laying.Line as line
 use Rattle.trellis.specs.Codes.{rows_of}
-use Rattle.trellis.proofs.Leasts.{answer_least}
+use Rattle.trellis.proofs.Leasts.{answered_least}
 use Rattle.trellis.proofs.Soundness.{sound_parts}
 use Rattle.trellis.proofs.Survivors.{answer_length, answer_closes}
 use Rattle.link.specs.declared.format.Format.{Format}
@@ -23,10 +23,8 @@ module _ {C S P L : Type 0} {k : cost.Ghosts C S P} (laws : Laws k) (l : line.Gh
       k.le (cost_due k l f due path) (cost_due k l f due (replicate f.code.memory false ++ reverse run)) ≡ true
   answer_cheapest due fit path answered run long =
       let code = sound_parts f.code f.codes in
-      let best = answer_least laws (rows_of f.code) (met_on l f.line due) (met_fit k l f.line due fit) f.code.memory code.taps_below code.some_memory (steps f) (omega arith) in
-      let same : best.0 ≡ path = cc best.1 in
-      subst (λ p. k.le (cost_due k l f due p) (cost_due k l f due (replicate f.code.memory false ++ reverse run)) ≡ true) same
-      (best.2 (reverse run) (simp length-reverse (omega arith)))
+      answered_least laws (rows_of f.code) (met_on l f.line due) (met_fit k l f.line due fit) f.code.memory code.taps_below code.some_memory (steps f) (omega arith)
+      path answered (reverse run) (simp length-reverse (omega arith))
 
   -- the rule's answer is the path of a run that zeros close
   answer_own : (due : ℕ → S) (path : List Bool) → answer_due k l f due ≡ Some path →

@@ -13,7 +13,7 @@ use Rattle.cost.proofs.Lawful.{Laws, clean_heard}
 use Rattle.line.specs.declared.laying.Line as line
 use Rattle.line.specs.Lawful as lines
 use Rattle.trellis.specs.Bits.{odd, xor, bit_of}
-use Rattle.trellis.specs.Clean.{CleanOf, HeardClean as Answer}
+use Rattle.trellis.specs.Clean.{CleanOf, CleanAnswer}
 use Rattle.trellis.specs.Coding.{coded_bit}
 use Rattle.trellis.specs.Codes.{rows_of}
 use Rattle.trellis.specs.Parity.{remainder, parity_of, with_parity}
@@ -113,7 +113,7 @@ module _ {C S P L : Type 0} {k : cost.Ghosts C S P} (laws : Laws k) {l : line.Gh
 
       module _ (path : List Bool) (answered : answer_due k l f due ≡ Some path) where
         -- what the rule's answer is
-        answer : Answer k f.code (met_on l f.line due) (steps f) run path
+        answer : CleanAnswer k f.code (met_on l f.line due) (steps f) run path
         answer = heard_clean laws f.code f.codes agreed.rows (met_on l f.line due) (steps f) run path run_long met_clean answered
 
         -- it sends the same bits
@@ -146,11 +146,11 @@ module _ {C S P L : Type 0} {k : cost.Ghosts C S P} (laws : Laws k) {l : line.Gh
           run_message : (block : List ℕ) → written f path block ≡ map bit_of message ++ drop f.message block
           run_message block =
               let back : reverse path ≡ run ++ reverse (replicate f.code.memory false) =
-                  ap reverse is ∙ reverse-append (replicate f.code.memory false) (reverse run) ∙ ap (λ r. r ++ reverse (replicate f.code.memory false)) (reverse-reverse run) in
+              ap reverse is ∙ reverse-append (replicate f.code.memory false) (reverse run) ∙ ap (λ r. r ++ reverse (replicate f.code.memory false)) (reverse-reverse run) in
               let long : f.message ≤ length run = let wide = with_parity_length f.parity message in omega (arith, wide, whole) in
               let front : take f.message (reverse path) ≡ message =
-                  ap (take f.message) back ∙ take-append-le f.message run (reverse (replicate f.code.memory false)) long
-                  ∙ take_at message (parity_of f.parity message) f.message whole in
+              ap (take f.message) back ∙ take-append-le f.message run (reverse (replicate f.code.memory false)) long
+              ∙ take_at message (parity_of f.parity message) f.message whole in
               ap (λ bits. map bit_of bits ++ drop f.message block) front
 
       -- so it is answered as it was sent
@@ -169,7 +169,7 @@ module _ {C S P L : Type 0} {k : cost.Ghosts C S P} (laws : Laws k) {l : line.Gh
             (now.0 ∙ ap (λ r. Ok (Block r)) tells, now.1 ∙ run_message best.path best.rule is block);
       }
         where
-          own : Answer k f.code (met_on l f.line due) (steps f) run best.path
+          own : CleanAnswer k f.code (met_on l f.line due) (steps f) run best.path
           own = answer best.path best.rule
 
           tells : report_of k l f due b best.path ≡ costless_report k l f b

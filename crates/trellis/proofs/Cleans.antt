@@ -8,7 +8,7 @@ use Rattle.cost.specs.declared.kind.Cost.{Ghosts}
 use Rattle.cost.specs.Samples.{clean}
 use Rattle.cost.proofs.Lawful.{Laws, le_refl}
 use Rattle.trellis.specs.Bits.{xor}
-use Rattle.trellis.specs.Clean.{SendsAs, CleanOf, HeardClean}
+use Rattle.trellis.specs.Clean.{SendsAs, CleanOf, CleanAnswer}
 use Rattle.trellis.specs.Codes.{summed, rows_of, sound}
 use Rattle.trellis.specs.Coding.{coded_bit}
 use Rattle.trellis.specs.Paths.{grown_by, grown_rows, cost_of}
@@ -16,7 +16,7 @@ use Rattle.trellis.specs.Rule.{answer}
 use Rattle.trellis.specs.declared.code.Code.{Code}
 use Rattle.trellis.proofs.Bitwise.{xor_same}
 use Rattle.trellis.proofs.Coded.{coded_before, coded_closed, coded_newest, same_first_row}
-use Rattle.trellis.proofs.Leasts.{answer_least}
+use Rattle.trellis.proofs.Leasts.{answered_least}
 use Rattle.trellis.proofs.Soundness.{sound_parts}
 use Rattle.trellis.proofs.Survivors.{answer_length}
 
@@ -138,14 +138,13 @@ module _ {C S P : Type 0} {k : Ghosts C S P} (laws : Laws k) where
 
   -- where the run that was sent is heard clean, the rule answers a path that costs nothing, and so sends as was sent
   pub heard_clean : (code : Code) → sound code ≡ true → length (rows_of code) ≡ code.rows → (met : ℕ → List (S × Bool)) (steps : ℕ) (run path : List Bool) →
-      length run + code.memory ≡ steps → CleanOf k (coded_bit code run) met → answer k (rows_of code) met code.memory steps ≡ Some path → HeardClean k code met steps run path
+      length run + code.memory ≡ steps → CleanOf k (coded_bit code run) met → answer k (rows_of code) met code.memory steps ≡ Some path → CleanAnswer k code met steps run path
   heard_clean code ok given met steps run path long heard answered =
       let parts = sound_parts code ok in
       let sent = coded_bit code run in
       let own = replicate code.memory false ++ reverse run in
-      let best = answer_least laws (rows_of code) met (λ j. clean_fits (sent j) (met j) (heard j)) code.memory parts.taps_below parts.some_memory steps (omega arith) in
-      let same : best.0 ≡ path = cc best.1 in
-      let least = subst (λ p. k.le (cost_of k (rows_of code) met p) (cost_of k (rows_of code) met own) ≡ true) same (best.2 (reverse run) (simp length-reverse long)) in
+      let least = answered_least laws (rows_of code) met (λ j. clean_fits (sent j) (met j) (heard j)) code.memory parts.taps_below parts.some_memory steps (omega arith)
+      path answered (reverse run) (simp length-reverse long) in
       let free = clean_costs_nothing code given met sent heard own (λ j _ _. coded_closed code run code.memory j) in
       let sends = costless_sends_same code given met sent heard path (subst (λ c. k.le (cost_of k (rows_of code) met path) c ≡ true) free least) in
       let size = answer_length k (rows_of code) met code.memory steps path answered in

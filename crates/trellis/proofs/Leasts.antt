@@ -1,5 +1,5 @@
 -- No path costs less than the survivor of its register, from the laws of a cost.
-use Rattle.std.proofs.Common.{◌≡◌, ℕ, zero, suc, ◌+◌, ◌-◌, ◌*◌, ◌^◌, ◌<◌, ◌≤◌, Bool, true, false, ltb, List, [], ◌∷◌, ◌++◌, length, get_or, replicate, Some, None, Option, refl, ap, add-one, arith, length-append}
+use Rattle.std.proofs.Common.{◌≡◌, ℕ, zero, suc, ◌+◌, ◌-◌, ◌*◌, ◌^◌, ◌<◌, ◌≤◌, Bool, true, false, ltb, List, [], ◌∷◌, ◌++◌, length, get_or, replicate, Some, None, Option, refl, ap, subst, add-one, arith, length-append}
 use lib.ListN.{length-replicate}
 use Rattle.std.specs.List.{AllByRecursion}
 use Rattle.std.proofs.lemmas.Bool.{and_parts, cond-true, cond_both, ltb-true}
@@ -100,3 +100,12 @@ module _ {C S P : Type 0} {k : Ghosts C S P} (laws : Laws k) (rows : List ℕ) (
             let each = meets u l in
             let same : each.0 ≡ some.0 = cc (each.1, some.1) in
             rw same at each.2
+
+    -- so whichever path is answered does
+    pub answered_least : (memory : ℕ) → all_below (2 ^ (memory + 1)) rows ≡ true → 0 < memory → (steps : ℕ) → memory ≤ steps →
+        (path : List Bool) → answer k rows met memory steps ≡ Some path → (u : List Bool) → length u + memory ≡ steps →
+        k.le (cost_of k rows met path) (cost_of k rows met (replicate memory false ++ u)) ≡ true
+    answered_least memory below pos steps h path answered u long =
+        let best = answer_least memory below pos steps h in
+        let same : best.0 ≡ path = cc best.1 in
+        subst (λ p. k.le (cost p) (cost (replicate memory false ++ u)) ≡ true) same (best.2 u long)

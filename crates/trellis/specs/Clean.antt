@@ -19,7 +19,7 @@ module _ {C S P : Type 0} (k : Ghosts C S P) where
   CleanOf sent met = (j : ℕ) → AllByRecursion (λ m. m.0 ≡ clean k (xor (sent j) m.1)) (met j)
 
   -- the path answered after so many steps where the run that was sent is heard clean
-  pub record HeardClean (code : Code) (met : ℕ → List (S × Bool)) (steps : ℕ) (run path : List Bool) : Type 0 where
+  pub record CleanAnswer (code : Code) (met : ℕ → List (S × Bool)) (steps : ℕ) (run path : List Bool) : Type 0 where
     pub costless : cost_of k (rows_of code) met path ≡ k.ZERO
     pub as_sent : SendsAs met (coded_bit code run) (coded_bit code (reverse path)) (code.rows * steps)
     -- where the first coded bit of every step meets something, it is the path of that run
