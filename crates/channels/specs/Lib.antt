@@ -4,3 +4,4 @@ pub mod Examples
 pub mod Layings
 pub mod Tables
 pub mod LayingsLemmas
+pub mod Standard
