@@ -1,2 +1,4 @@
 pub mod Worked
 pub mod StandardCoder
+pub mod StandardMasks
+pub mod StandardMatrix
