@@ -2,3 +2,5 @@ pub mod Worked
 pub mod StandardCoder
 pub mod StandardMasks
 pub mod StandardMatrix
+pub mod StandardChannels
+pub mod StandardBursts
