@@ -1,4 +1,4 @@
--- The channels: what each one sets, and what a receiver opened for it is.
+-- The channels: what each one sets, and what a receiver or a sender opened for it is.
 use Rattle.std.specs.Prelude.{◌≡◌, ℕ, ◌*◌, Bool, true, Option}
 use Rattle.cost.specs.declared.kind.Cost as cost
 use Rattle.line.specs.Interleaver.{interleaved}
@@ -6,10 +6,11 @@ use Rattle.line.specs.Unpunctured.{in_order}
 use Rattle.puncture.specs.Patterns.{numbered}
 use Rattle.puncture.specs.Masks.{pattern}
 use Rattle.line.specs.Scrambler.{scrambled}
-use Rattle.link.specs.Opening.{Opened}
+use Rattle.link.specs.Opening.{Opened, SenderOpened}
 use Rattle.link.specs.Rules.{lengths_suit, line_suits, steps_of}
 use Rattle.link.specs.declared.proposal.Proposal.{Proposal}
 use Rattle.link.specs.declared.receiver.Receiver.{Receiver}
+use Rattle.link.specs.declared.sender.Sender.{Sender}
 use Rattle.trellis.specs.Codes.{sound}
 use Rattle.trellis.specs.declared.code.Code.{Code}
 use Rattle.channels.specs.Layings.{laying_line}
@@ -85,7 +86,7 @@ terms Bcch = bcch_terms
 terms Data24 = data24_terms
 terms Data96 = data96_terms
 
--- what a receiver of the channel is opened with, its line aside
+-- what either end of the channel is opened with, its line aside
 abbrev pub asked : Terms → Laying → Proposal Laying
 asked t l = record { code = t.code; message = t.message; parity = t.parity; depth = t.depth; line = l }
 
@@ -95,26 +96,31 @@ pub record Openable (p : Proposal Laying) : Type 0 where
   pub lengths : lengths_suit p.message p.parity p.depth ≡ true
   pub laying : line_suits laying_line p.line (p.code.rows * steps_of p.code p.message p.parity) ≡ true
 
+-- a line that lays a block as a channel sets
+pub record Lays (t : Terms) (l : Laying) : Type 0 where
+  -- as many coded bits
+  pub coded : laying_line.coded l ≡ t.coded
+  -- in as many places
+  pub burst : laying_line.sent l ≡ t.burst
+  -- each where the channel sets
+  pub places : (j : ℕ) → laying_line.place l j ≡ t.place j
+
 -- a proposal of what a channel sets
 pub record Proposes (channel : Channel) (p : Proposal Laying) : Type 0 where
   -- its code and lengths are the channel's
   pub asks : p ≡ asked (terms channel) p.line
   pub suited : laying_line.suited p.line ≡ true
-  -- its line lays as many coded bits
-  pub coded : laying_line.coded p.line ≡ (terms channel).coded
-  -- in as many places
-  pub burst : laying_line.sent p.line ≡ (terms channel).burst
-  -- each where the channel sets
-  pub places : (j : ℕ) → laying_line.place p.line j ≡ (terms channel).place j
+  pub lays : Lays (terms channel) p.line
 
 -- a receiver opened for a channel
 pub record Tuned {C S P : Type 0} (k : cost.Ghosts C S P) (channel : Channel) (r : Receiver C Laying S P) : Type 0 where
   pub line : Laying
+  pub lays : Lays (terms channel) line
   -- it was opened with the channel's code and lengths and this line; every history of it is sound
   pub opened : Opened k laying_line (asked (terms channel) line) r
-  -- the line lays as many coded bits
-  pub coded : laying_line.coded line ≡ (terms channel).coded
-  -- in as many places
-  pub burst : laying_line.sent line ≡ (terms channel).burst
-  -- each where the channel sets
-  pub places : (j : ℕ) → laying_line.place line j ≡ (terms channel).place j
+
+-- a sender opened for a channel, by the same code, lengths and line; every history of it is sound
+pub record TunedSender (channel : Channel) (s : Sender Laying) : Type 0 where
+  pub line : Laying
+  pub lays : Lays (terms channel) line
+  pub opened : SenderOpened laying_line (asked (terms channel) line) s

@@ -24,7 +24,7 @@ pub const DEPTH: usize = 1;
 
 pub const LINE: Laying = Laying::Scrambled(Scrambled(Interleaved(Unpunctured { bits: 424 })));
 
-// What a receiver of the channel is opened with.
+// What either end of the channel is opened with.
 pub fn proposal() -> Proposal<Laying>
     ensures { Proposes Bcch result }
 {

@@ -23,7 +23,7 @@ pub const DEPTH: usize = 1;
 
 pub const LINE: Laying = Laying::Whole(Interleaved(Unpunctured { bits: 16 }));
 
-// What a receiver of the channel is opened with.
+// What either end of the channel is opened with.
 pub fn proposal() -> Proposal<Laying>
     ensures { Proposes Bench result }
 {

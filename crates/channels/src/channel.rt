@@ -1,13 +1,14 @@
 // The channels by name.
-ghost use Rattle.channels.specs.Channels.{Openable, Proposes, Tuned};
+ghost use Rattle.channels.specs.Channels.{Openable, Proposes, Tuned, TunedSender};
 ghost use Rattle.channels.specs.Layings.{laying_line};
-ghost use Rattle.link.specs.Opening.{Opened};
+ghost use Rattle.link.specs.Opening.{Opened, SenderOpened};
 
 use crate::laying::Laying;
 use crate::{bcch, bench, data24, data96};
 use cost::kind::Cost;
 use link::proposal::Proposal;
 use link::receiver::Receiver;
+use link::sender::Sender;
 
 #[derive(Clone, Copy, Debug, PartialEq, Eq)]
 pub enum Channel {
@@ -18,7 +19,7 @@ pub enum Channel {
 }
 
 impl Channel {
-    // What a receiver of the channel is opened with.
+    // What either end of the channel is opened with.
     pub fn proposal(self) -> Proposal<Laying>
         ensures { Proposes self result }
     {
@@ -36,6 +37,13 @@ impl Channel {
     {
         open(self.proposal())
     }
+
+    // A sender for the channel, which always opens too.
+    pub fn open_sender(self) -> Sender<Laying>
+        ensures { TunedSender self result }
+    {
+        open_sender(self.proposal())
+    }
 }
 
 // A receiver of what breaks no rule of opening.
@@ -46,6 +54,17 @@ fn open<C: Cost>(proposal: Proposal<Laying>) -> Receiver<C, Laying>
     match Receiver::<C, Laying>::open(proposal) {
         Ok(receiver) => receiver,
         // No `expect`: the check has to see that no rule is broken.
+        Err(_) => unreachable(),
+    }
+}
+
+// A sender of the same.
+fn open_sender(proposal: Proposal<Laying>) -> Sender<Laying>
+    requires { Openable proposal }
+    ensures { SenderOpened laying_line proposal result }
+{
+    match Sender::<Laying>::open(proposal) {
+        Ok(sender) => sender,
         Err(_) => unreachable(),
     }
 }

@@ -35,7 +35,7 @@ pub const MASKS: Tables<'static> = Tables {
     suffix: Some(&SUFFIX),
 };
 
-// What a receiver of the channel is opened with.
+// What either end of the channel is opened with.
 pub fn proposal() -> Proposal<Laying>
     ensures { Proposes Data96 result }
 {

@@ -1,4 +1,4 @@
-// The channels that a receiver can be opened for.
+// The channels that a receiver or a sender can be opened for.
 #![tactic(auto)]
 
 pub mod bcch;
