@@ -1,3 +1,5 @@
+pub mod FirstRows
+pub mod Tuning
 pub mod Worked
 pub mod StandardCoder
 pub mod StandardMasks

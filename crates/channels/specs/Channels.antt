@@ -1,19 +1,22 @@
 -- The channels: what each one sets, and what a receiver or a sender opened for it is.
-use Rattle.std.specs.Prelude.{◌≡◌, ℕ, ◌*◌, Bool, true, Option}
+use Rattle.std.specs.Prelude.{◌≡◌, ℕ, ◌*◌, ◌<◌, Bool, true, false, List, [], length, Option, slice_index_or}
 use Rattle.cost.specs.declared.kind.Cost as cost
 use Rattle.line.specs.Interleaver.{interleaved}
 use Rattle.line.specs.Unpunctured.{in_order}
 use Rattle.puncture.specs.Patterns.{numbered}
 use Rattle.puncture.specs.Masks.{pattern}
 use Rattle.line.specs.Scrambler.{scrambled}
+use Rattle.link.specs.BothEnds.{FirstRowSent}
 use Rattle.link.specs.Opening.{Opened, SenderOpened}
 use Rattle.link.specs.Rules.{lengths_suit, line_suits, steps_of}
+use Rattle.link.specs.Streams.{Stream}
 use Rattle.link.specs.declared.proposal.Proposal.{Proposal}
 use Rattle.link.specs.declared.receiver.Receiver.{Receiver}
 use Rattle.link.specs.declared.sender.Sender.{Sender}
 use Rattle.trellis.specs.Codes.{sound}
 use Rattle.trellis.specs.declared.code.Code.{Code}
 use Rattle.channels.specs.Layings.{laying_line}
+use Rattle.channels.specs.Standard.{StandardBurst, standard}
 use Rattle.channels.specs.Tables.{bench_code, half_code, fifth_code, data24_masks, data96_masks}
 use Rattle.channels.specs.declared.channel.Channel.{Channel}
 use Rattle.channels.specs.declared.channel.Channel.TheVariants.{Bench, Bcch, Data24, Data96}
@@ -112,15 +115,30 @@ pub record Proposes (channel : Channel) (p : Proposal Laying) : Type 0 where
   pub suited : laying_line.suited p.line ≡ true
   pub lays : Lays (terms channel) p.line
 
+-- the channels of which the first coded bit of every step is sent, so that a block heard clean is reported as it was sent
+abbrev pub first_row_sent : Channel → Bool
+first_row_sent Bench = true
+first_row_sent Bcch = true
+first_row_sent Data24 = true
+first_row_sent Data96 = false
+
 -- a receiver opened for a channel
 pub record Tuned {C S P : Type 0} (k : cost.Ghosts C S P) (channel : Channel) (r : Receiver C Laying S P) : Type 0 where
   pub line : Laying
   pub lays : Lays (terms channel) line
-  -- it was opened with the channel's code and lengths and this line; every history of it is sound
+  -- it was opened with the channel's code and lengths and this line; every history of it is sound, and what it hears clean is answered as it was sent
   pub opened : Opened k laying_line (asked (terms channel) line) r
+  pub first_row : first_row_sent channel ≡ true → FirstRowSent laying_line r.format
 
 -- a sender opened for a channel, by the same code, lengths and line; every history of it is sound
 pub record TunedSender (channel : Channel) (s : Sender Laying) : Type 0 where
   pub line : Laying
   pub lays : Lays (terms channel) line
   pub opened : SenderOpened laying_line (asked (terms channel) line) s
+  -- burst n of every history is one that the standard describes
+  pub described : (s' : Sender Laying) (ring : List ℕ) (messages : List (List Bool)) (bursts : List (List ℕ)) (n : ℕ) →
+      Stream laying_line s s' ring messages bursts → n < length messages → StandardBurst (standard channel) messages n (slice_index_or bursts n [])
+  -- and the only one
+  pub only : (s' : Sender Laying) (ring : List ℕ) (messages : List (List Bool)) (bursts : List (List ℕ)) (n : ℕ) →
+      Stream laying_line s s' ring messages bursts → n < length messages →
+      (burst : List ℕ) → StandardBurst (standard channel) messages n burst → burst ≡ slice_index_or bursts n []

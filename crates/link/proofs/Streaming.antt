@@ -2,8 +2,8 @@
 use Rattle.std.proofs.Common.{◌≡◌, ℕ, ◌+◌, ◌-◌, ◌*◌, ◌%◌, ◌<◌, ◌≤◌, Bool, true, false, ◌&&◌, leb, List, [], ◌∷◌, ◌++◌, map, length, get_or, take, drop, Some, None, Ok, Err, Option, sym, refl, ap, ◌∙◌, subst, inl, inr, mod-lt, arith}
 use Rattle.std.specs.declared.convert.Infallible.{Infallible}
 use Rattle.std.proofs.Math.Seq.{take-append_seam}
-use Rattle.std.proofs.lemmas.Bool.{cases_eq, eqb-true, leb-true, le-leb, lt-leb}
-use Rattle.std.proofs.lemmas.List.{get_or_append_left, get_or_push, length-map, length_push}
+use Rattle.std.proofs.lemmas.Bool.{cases_eq, cases_lt, eqb-true, leb-true, le-leb, lt-leb}
+use Rattle.std.proofs.lemmas.List.{ext_get_or, get_or_append_left, get_or_push, length-map, length_push}
 use Rattle.line.specs.declared.laying.Line as line
 use Rattle.line.specs.Lawful.{Laws}
 use Rattle.trellis.specs.Bits.{odd, xor, bit_of}
@@ -233,3 +233,18 @@ module _ {L : Type 0} {l : line.Ghosts L} (laws : Laws l) (opened : Sender L) (l
     each = λ s ring messages bursts past. (invariant s ring messages bursts past).each;
     bursts = λ s ring messages bursts n past h. (invariant s ring messages bursts past).right n h;
   }
+
+-- a stream has no more than one burst of each number
+pub burst_only : {L : Type 0} {l : line.Ghosts L} (laws : Laws l) (f : Format L) (lays : f.burst ≡ l.sent f.line) (messages : List (List Bool)) (n : ℕ) (one other : List ℕ) →
+    BurstOf l f messages n one → BurstOf l f messages n other → one ≡ other
+burst_only {L} {l} laws f lays messages n one other a b = ext_get_or 0 one other (a.whole ∙ sym b.whole) same
+  where
+    same : (k : ℕ) → k < length one → get_or one k 0 ≡ get_or other k 0
+    same k h =
+        let at = laws.filled f.line k (omega (arith, lays, a.whole)) in
+        elim (cases_lt n (k % f.depth)) [
+          | inl early ↦ a.before at.0 k at.1 at.2 early ∙ sym (b.before at.0 k at.1 at.2 early)
+          | inr late ↦
+              let due : burst_of f (n - k % f.depth) k ≡ n = omega arith in
+              a.carries at.0 k (n - k % f.depth) at.1 at.2 due ∙ sym (b.carries at.0 k (n - k % f.depth) at.1 at.2 due)
+        ]
