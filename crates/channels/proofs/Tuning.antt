@@ -2,13 +2,15 @@
 use Rattle.std.proofs.Common.{◌≡◌, ℕ, ◌<◌, Bool, List, [], ◌↔◌, length, get_or, sym, ap, ◌∙◌, subst}
 use Rattle.cost.specs.declared.kind.Cost as cost
 use Rattle.line.specs.Lawful.{Laws}
-use Rattle.link.specs.Opening.{Opened, SenderOpened}
+use Rattle.link.specs.BothEnds.{Alike}
+use Rattle.link.specs.Opening.{Holds, Opened, SenderOpened}
+use Rattle.link.specs.declared.format.Format.{Format}
 use Rattle.link.specs.Streams.{Stream, BurstOf}
 use Rattle.link.specs.declared.proposal.Proposal.{Proposal}
 use Rattle.link.specs.declared.receiver.Receiver.{Receiver}
 use Rattle.link.specs.declared.sender.Sender.{Sender}
 use Rattle.link.proofs.Streaming.{burst_only}
-use Rattle.channels.specs.Channels.{Proposes, Tuned, TunedSender, terms, asked}
+use Rattle.channels.specs.Channels.{Lays, Proposes, Tuned, TunedSender, terms, asked}
 use Rattle.channels.specs.Layings.{laying_line}
 use Rattle.channels.specs.LayingsLemmas.{within, apart, filled, ended}
 use Rattle.channels.specs.Standard.{StandardBurst, standard}
@@ -21,12 +23,31 @@ use Rattle.channels.proofs.StandardBursts.{same_burst}
 laying_laws : Laws laying_line
 laying_laws = record { within = within; apart = apart; filled = filled; ended = ended }
 
+-- two formats that hold what one channel sets are alike
+understood : (channel : Channel) (x y : Laying) → Lays (terms channel) x → Lays (terms channel) y → (f g : Format Laying) →
+    Holds laying_line (asked (terms channel) x) f → Holds laying_line (asked (terms channel) y) g → Alike laying_line f g
+understood channel x y lays_x lays_y f g held_f held_g = record {
+  code = held_f.code ∙ sym held_g.code;
+  message = held_f.message ∙ sym held_g.message;
+  parity = held_f.parity ∙ sym held_g.parity;
+  depth = held_f.depth ∙ sym held_g.depth;
+  burst = held_f.burst ∙ lays_x.burst ∙ sym (held_g.burst ∙ lays_y.burst);
+  places = λ j.
+      ap (λ z. laying_line.place z j) held_f.line ∙ lays_x.places j ∙ sym (ap (λ z. laying_line.place z j) held_g.line ∙ lays_y.places j);
+}
+
 module _ (channel : Channel) (p : Proposal Laying) (proposed : Proposes channel p) where
   -- a receiver opened with a channel's proposal
   pub tuned : {C S P : Type 0} (k : cost.Ghosts C S P) (r : Receiver C Laying S P) → Opened k laying_line p r → Tuned k channel r
   tuned k r opened =
       let here = subst (λ q. Opened k laying_line q r) proposed.asks opened in
-      record { line = p.line; lays = proposed.lays; opened = here; first_row = first_row channel p.line proposed.lays r.format here.format }
+      record {
+        line = p.line;
+        lays = proposed.lays;
+        opened = here;
+        first_row = first_row channel p.line proposed.lays r.format here.format;
+        understands = λ s sender. understood channel sender.line p.line sender.lays proposed.lays s.format r.format sender.opened.format here.format;
+      }
 
   module _ (s : Sender Laying) (opened : SenderOpened laying_line p s) where
     -- a sender opened with it, by the channel's terms

@@ -6,7 +6,7 @@ use Rattle.line.specs.Unpunctured.{in_order}
 use Rattle.puncture.specs.Patterns.{numbered}
 use Rattle.puncture.specs.Masks.{pattern}
 use Rattle.line.specs.Scrambler.{scrambled}
-use Rattle.link.specs.BothEnds.{FirstRowSent}
+use Rattle.link.specs.BothEnds.{Alike, FirstRowSent}
 use Rattle.link.specs.Opening.{Opened, SenderOpened}
 use Rattle.link.specs.Rules.{lengths_suit, line_suits, steps_of}
 use Rattle.link.specs.Streams.{Stream}
@@ -122,14 +122,6 @@ first_row_sent Bcch = true
 first_row_sent Data24 = true
 first_row_sent Data96 = false
 
--- a receiver opened for a channel
-pub record Tuned {C S P : Type 0} (k : cost.Ghosts C S P) (channel : Channel) (r : Receiver C Laying S P) : Type 0 where
-  pub line : Laying
-  pub lays : Lays (terms channel) line
-  -- it was opened with the channel's code and lengths and this line; every history of it is sound, and what it hears clean is answered as it was sent
-  pub opened : Opened k laying_line (asked (terms channel) line) r
-  pub first_row : first_row_sent channel ≡ true → FirstRowSent laying_line r.format
-
 -- a sender opened for a channel, by the same code, lengths and line; every history of it is sound
 pub record TunedSender (channel : Channel) (s : Sender Laying) : Type 0 where
   pub line : Laying
@@ -142,3 +134,13 @@ pub record TunedSender (channel : Channel) (s : Sender Laying) : Type 0 where
   pub only : (s' : Sender Laying) (ring : List ℕ) (messages : List (List Bool)) (bursts : List (List ℕ)) (n : ℕ) →
       Stream laying_line s s' ring messages bursts → n < length messages →
       (burst : List ℕ) → StandardBurst (standard channel) messages n burst → burst ≡ slice_index_or bursts n []
+
+-- a receiver opened for a channel
+pub record Tuned {C S P : Type 0} (k : cost.Ghosts C S P) (channel : Channel) (r : Receiver C Laying S P) : Type 0 where
+  pub line : Laying
+  pub lays : Lays (terms channel) line
+  -- it was opened with the channel's code and lengths and this line; every history of it is sound, and what it hears clean is answered as it was sent
+  pub opened : Opened k laying_line (asked (terms channel) line) r
+  pub first_row : first_row_sent channel ≡ true → FirstRowSent laying_line r.format
+  -- it understands every sender opened for the channel
+  pub understands : (s : Sender Laying) → TunedSender channel s → Alike laying_line s.format r.format

@@ -26,16 +26,15 @@ use Rattle.link.specs.declared.receiver.Receiver.{Receiver}
 use Rattle.link.specs.declared.sender.Sender.{Sender}
 use Rattle.link.specs.declared.refusal.Refusal.TheVariants.{WrongParity}
 use Rattle.link.specs.declared.report.Answer.TheVariants.{Block}
-use Rattle.link.specs.BothEnds.{FirstRowSent, HeardClean, costless_report, AsSent, AllAsSent}
+use Rattle.link.specs.BothEnds.{Alike, FirstRowSent, HeardClean, costless_report, AsSent, AllAsSent}
 use Rattle.link.specs.Calls.{right, written, Reply, answer_due, report_of, silence}
 use Rattle.link.specs.Due.{burst_of, placed, met_on, in_bursts, heard_of}
 use Rattle.link.specs.Histories.{Best, AllSound}
 use Rattle.link.specs.Opening.{Holds}
 use Rattle.link.specs.Rules.{first, open_rules, between, steps_of, steps}
 use Rattle.link.specs.Sending.{run_of}
-use Rattle.link.specs.Streams.{Stream, BurstOf}
+use Rattle.link.specs.Streams.{Stream, AllStreams, BurstOf}
 use Rattle.link.proofs.FirstRule.{first_none, unless_none}
-use Rattle.link.proofs.Streaming.{all_streams}
 use Rattle.link.proofs.Writing.{odd_bit}
 
 -- what both ends agree on, beside the format: what opening has checked of it
@@ -180,6 +179,17 @@ module _ {C S P L : Type 0} {k : cost.Ghosts C S P} (laws : Laws k) {l : line.Gh
           replies true e = let now = best.reported e in (now.0 ∙ ap (λ r. Ok (Block r)) tells, now.1)
           replies false e = let now = best.refused e in (now.0 ∙ ap (λ r. Err (WrongParity r)) tells, now.1)
 
+-- the burst of one format is that of another like it
+burst_alike : {L : Type 0} (l : line.Ghosts L) (f g : Format L) → Alike l f g → (messages : List (List Bool)) (n : ℕ) (burst : List ℕ) → BurstOf l f messages n burst →
+    BurstOf l g messages n burst
+burst_alike l f g alike messages n burst o = record {
+  whole = o.whole ∙ alike.burst;
+  carries = λ j k b turned e due.
+      o.carries j k b turned (alike.places j ∙ e) (ap (λ d. b + k % d) alike.depth ∙ due)
+      ∙ ap₂ (λ code width. bit_of (xor turned (coded_bit code (with_parity width (get_or messages b [])) j))) alike.code alike.parity;
+  before = λ j k turned e h. o.before j k turned (alike.places j ∙ e) (subst (λ d. n < k % d) (sym alike.depth) h);
+}
+
 -- what opening has checked is what both ends agree on
 pub agreed_on : {B L : Type 0} (l : line.Ghosts L) (a : Proposal L) (f : Format L) → length a.code.taps ≡ 5 → first (open_rules {B = B} l a) ≡ None → Holds l a f → Agreed l f
 agreed_on {B} l a f five none holds =
@@ -205,29 +215,27 @@ agreed_on {B} l a f five none holds =
 
 module _ {C S P L : Type 0} {k : cost.Ghosts C S P} (laws : Laws k) {l : line.Ghosts L} (line_laws : lines.Laws l) (opened : Receiver C L S P)
     (agreed : Agreed l opened.format) (sound : AllSound k l opened) where
-  -- a block that is told as claimed, heard as a sender opened alike sent it, is answered as it was sent
-  told_as_sent : (begun s : Sender L) (ring : List ℕ) (messages : List (List Bool)) (sent : List (List ℕ)) → begun.format ≡ opened.format → begun.counted ≡ 0 →
+  -- a block that is told as claimed, heard as a sender of such a format sent it, is answered as it was sent
+  told_as_sent : (begun s : Sender L) (ring : List ℕ) (messages : List (List Bool)) (sent : List (List ℕ)) → AllStreams l begun → Alike l begun.format opened.format →
       Stream l begun s ring messages sent → (bursts : List (List S)) (b c : ℕ) → HeardClean k l opened.format bursts b sent c →
       (block : List ℕ) (reply : Reply k l) (block' : List ℕ) → Best k l opened.format bursts b block reply block' →
       AsSent k l opened.format bursts b (get_or messages c []) block reply block'
-  told_as_sent begun s ring messages sent same fresh stream bursts b c heard =
+  told_as_sent begun s ring messages sent streams alike stream bursts b c heard =
       let f = opened.format in
-      let lays : begun.format.burst ≡ l.sent begun.format.line = subst (λ g. g.burst ≡ l.sent g.line) (sym same) agreed.lays in
-      let streams = all_streams line_laws begun lays fresh in
       let each = streams.each s ring messages sent stream in
       let some = f.least_depth in
       let within : c < length messages = omega (arith, each, heard.ended) in
       as_sent laws line_laws f agreed bursts b sent c messages
-      (λ n h. let early : n < length messages = omega (arith, each) in subst (λ g. BurstOf l g messages n (get_or sent n [])) same (streams.bursts s ring messages sent n stream early))
-      heard (streams.lengths s ring messages sent c stream within ∙ ap (λ g. g.message) same)
+      (λ n h. let early : n < length messages = omega (arith, each) in burst_alike l begun.format f alike messages n (get_or sent n []) (streams.bursts s ring messages sent n stream early))
+      heard (streams.lengths s ring messages sent c stream within ∙ alike.message)
 
   -- so every block that is heard clean is
   pub all_as_sent : AllAsSent k l opened
   all_as_sent = record {
-    hears = λ begun s ring messages sent same fresh stream r r' bursts samples m m' reply past hears none b c ends heard.
-        told_as_sent begun s ring messages sent same fresh stream (bursts ++ (samples ∷ [])) b c heard m.block reply m'.block
+    hears = λ begun s ring messages sent streams alike stream r r' bursts samples m m' reply past hears none b c ends heard.
+        told_as_sent begun s ring messages sent streams alike stream (bursts ++ (samples ∷ [])) b c heard m.block reply m'.block
         ((sound.hears r r' bursts samples m m' reply past hears).decides none b ends);
-    misses = λ begun s ring messages sent same fresh stream r r' bursts m m' reply past misses none b c ends heard.
-        told_as_sent begun s ring messages sent same fresh stream (bursts ++ (silence k l opened.format ∷ [])) b c heard m.block reply m'.block
+    misses = λ begun s ring messages sent streams alike stream r r' bursts m m' reply past misses none b c ends heard.
+        told_as_sent begun s ring messages sent streams alike stream (bursts ++ (silence k l opened.format ∷ [])) b c heard m.block reply m'.block
         ((sound.misses r r' bursts m m' reply past misses).decides none b ends);
   }

@@ -16,7 +16,16 @@ use Rattle.link.specs.Due.{burst_of, in_bursts}
 use Rattle.link.specs.Histories.{History}
 use Rattle.link.specs.Rules.{first, steps, hear_rules, miss_rules}
 use Rattle.link.specs.Sending.{run_of}
-use Rattle.link.specs.Streams.{Stream}
+use Rattle.link.specs.Streams.{Stream, AllStreams}
+
+-- two formats by which a sender and a receiver understand each other: one code and the same lengths, and lines that lay each coded bit at the same place
+pub record Alike {L : Type 0} (l : line.Ghosts L) (f g : Format L) : Type 0 where
+  pub code : f.code ≡ g.code
+  pub message : f.message ≡ g.message
+  pub parity : f.parity ≡ g.parity
+  pub depth : f.depth ≡ g.depth
+  pub burst : f.burst ≡ g.burst
+  pub places : (j : ℕ) → l.place f.line j ≡ l.place g.line j
 
 -- the first coded bit of every step is sent
 abbrev pub FirstRowSent : {L : Type 0} → line.Ghosts L → Format L → Type 0
@@ -51,17 +60,17 @@ module _ {C S P L : Type 0} (k : cost.Ghosts C S P) (l : line.Ghosts L) where
     -- and the message is reported
     pub reported : FirstRowSent l f → (reply ≡ Ok (Block (costless_report f b))) × (block' ≡ map bit_of message ++ drop f.message block)
 
-  -- whatever a sender opened alike has sent, and whatever calls came before, a block that was heard clean is answered as it was sent
+  -- whatever a sender of such a format has sent, and whatever calls came before, a block that was heard clean is answered as it was sent
   pub record AllAsSent (opened : Receiver C L S P) : Type 0 where
     pub hears : (begun s : Sender L) (sender_ring : List ℕ) (messages : List (List Bool)) (sent : List (List ℕ)) →
-        begun.format ≡ opened.format → begun.counted ≡ 0 → Stream l begun s sender_ring messages sent →
+        AllStreams l begun → Alike l begun.format opened.format → Stream l begun s sender_ring messages sent →
         (r r' : Receiver C L S P) (bursts : List (List S)) (samples : List S) (m m' : Memory S P) (reply : Reply k l) →
         History k l opened r m.ring bursts → Hears k l samples r m reply r' m' → first (hear_rules k opened.format (sizes m) (length bursts) samples) ≡ None →
         (b c : ℕ) → b + opened.format.depth ≡ length bursts + 1 → HeardClean opened.format (bursts ++ (samples ∷ [])) b sent c →
         AsSent opened.format (bursts ++ (samples ∷ [])) b (slice_index_or messages c []) m.block reply m'.block
     -- the last burst may be missed, where no place of it is due to the block
     pub misses : (begun s : Sender L) (sender_ring : List ℕ) (messages : List (List Bool)) (sent : List (List ℕ)) →
-        begun.format ≡ opened.format → begun.counted ≡ 0 → Stream l begun s sender_ring messages sent →
+        AllStreams l begun → Alike l begun.format opened.format → Stream l begun s sender_ring messages sent →
         (r r' : Receiver C L S P) (bursts : List (List S)) (m m' : Memory S P) (reply : Reply k l) →
         History k l opened r m.ring bursts → Misses k l r m reply r' m' → first (miss_rules {B = Report C S P} opened.format (sizes m) (length bursts)) ≡ None →
         (b c : ℕ) → b + opened.format.depth ≡ length bursts + 1 → HeardClean opened.format (bursts ++ (silence k l opened.format ∷ [])) b sent c →
