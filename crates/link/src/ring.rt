@@ -11,6 +11,13 @@ pub(crate) struct Ring<'a, 'f, S, L> {
 }
 
 impl<L> Format<L> {
+    // How many cells the ring has, at either end.
+    pub(crate) fn ring_cells(&self) -> usize
+        ensures { result ≡ self.now.depth * self.now.burst }
+    {
+        self.depth * self.burst
+    }
+
     // Where the cells of burst n begin.
     pub(crate) fn row(&self, n: usize) -> usize
         ensures { result ≡ cell self.now n 0 }

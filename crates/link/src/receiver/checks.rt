@@ -45,7 +45,7 @@ impl<C: Cost, L: Line> Receiver<C, L> {
     {
         let registers = self.format.registers();
         Sizes {
-            ring: self.format.depth * self.format.burst,
+            ring: self.format.ring_cells(),
             costs: 2 * registers,
             paths: self.format.steps() * registers,
             block: self.format.message,

@@ -27,7 +27,7 @@ impl<L: Line> Sender<L> {
         ensures { result ≡ sender_needs self.now.format }
     {
         SenderSizes {
-            ring: self.format.depth * self.format.burst,
+            ring: self.format.ring_cells(),
             burst: self.format.burst,
         }
     }

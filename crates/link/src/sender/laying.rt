@@ -11,9 +11,10 @@ use line::laying::Line;
 use trellis::code::Code;
 use trellis::parity::remainder_of;
 
+// The longest message with its parity.
 const MOST_RUN: usize = 528;
 
-// The bit of each coded place, which goes to burst place k and is turned over there or not.
+// The bit of each coded place, at the burst place k where it goes and as it is turned over there or not.
 trait Bits {
     ghost bit: { Self → ℕ → ℕ → Bool → Bool };
 
