@@ -6,7 +6,7 @@ use cost::count::Count;
 use line::laying::Line;
 use link::memory::Memory;
 use link::refusal::Refusal;
-use link::report::Answer;
+use link::report::{Answer, Report};
 use std::array;
 use std::test::*;
 

@@ -8,7 +8,7 @@ use link::memory::Memory;
 use link::proposal::Proposal;
 use link::receiver::Receiver;
 use link::refusal::Refusal;
-use link::report::Answer;
+use link::report::{Answer, Report};
 use std::test::*;
 use trellis::code::Code;
 

@@ -9,6 +9,7 @@ use Rattle.link.specs.Histories.{History, begun, heard, missed, stole, restarted
 use Rattle.link.specs.Rules.{first, memory_rules, needed, hear_rules, miss_rules}
 use Rattle.link.specs.declared.receiver.Receiver.{Receiver}
 use Rattle.link.specs.declared.refusal.Refusal.{Refusal}
+use Rattle.link.specs.declared.report.Report.{Report}
 use Rattle.recording.specs.Kinds.{Weighing, weighing}
 use Rattle.recording.specs.Lines.{opened_line, answer_line, stolen_line, restarted_line, fault_written, all_written}
 use Rattle.records.specs.Recordings.{Spells}

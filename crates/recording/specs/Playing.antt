@@ -9,6 +9,7 @@ use Rattle.link.specs.Calls.{Memory, Reply, Steals}
 use Rattle.link.specs.Histories.{History, begun}
 use Rattle.link.specs.declared.receiver.Receiver.{Receiver}
 use Rattle.link.specs.declared.refusal.Refusal.{Refusal}
+use Rattle.link.specs.declared.report.Report.{Report}
 use Rattle.recording.specs.Answers.{Goes}
 use Rattle.recording.specs.Kinds.{Weighing}
 use Rattle.recording.specs.Lines.{opened_line, fault_written, answer_line, stolen_line, restarted_line, written, all_written}

@@ -10,7 +10,7 @@ use cost::kind::Cost;
 use link::memory::Memory;
 use link::receiver::Receiver;
 use link::refusal::Refusal;
-use link::report::Answer;
+use link::report::{Answer, Report};
 use std::alloc::{AllocError, Global};
 
 #[derive(Drop)]

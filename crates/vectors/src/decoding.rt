@@ -6,7 +6,7 @@ use crate::vector::Vector;
 use crate::voiced::Voiced;
 use channels::channel::Channel;
 use link::refusal::Refusal;
-use link::report::Answer;
+use link::report::{Answer, Report};
 use recording::figures::Figured;
 use recording::printed::{Bits, Line};
 use stations::station::Station;

@@ -2,7 +2,7 @@
 use crate::condition::Condition;
 use crate::voiced::Voiced;
 use link::refusal::Refusal;
-use link::report::Answer;
+use link::report::{Answer, Report};
 use stations::station::Station;
 use std::alloc::{AllocError, Global};
 
