@@ -1,11 +1,13 @@
 -- The records of a recording, and the bytes that spell them.
-use Rattle.std.specs.Prelude.{◌≡◌, ℕ, ◌/◌, ◌%◌, ◌≤◌, List, [], ◌∷◌, length, take, Some, None, Option, ◌≢◌}
+use Rattle.std.specs.Prelude.{◌≡◌, ℕ, ◌/◌, ◌%◌, ◌<◌, ◌≤◌, List, [], ◌∷◌, ◌++◌, length, take, Some, None, Ok, Err, Option, Result, ◌≢◌}
 use Rattle.channels.specs.Bytes.{channel_byte}
 use Rattle.channels.specs.declared.channel.Channel.{Channel}
 use Rattle.records.specs.declared.record.Kind.{Kind}
 use Rattle.records.specs.declared.record.Kind.TheVariants.{Count, Ranked}
 use Rattle.records.specs.declared.record.Record.{Record}
 use Rattle.records.specs.declared.record.Record.TheVariants.{Open, Hear, Miss, Stolen, Restart}
+use Rattle.records.specs.declared.spell.SpellError.{SpellError}
+use Rattle.records.specs.declared.spell.SpellError.TheVariants.{TooLong, OutOfMemory}
 
 -- what a record says, its samples by value
 pub data Said : Type 0 where
@@ -54,6 +56,12 @@ abbrev pub Reads : List ℕ → Option (Record × ℕ) → Type 0
 Reads bytes (Some (found, taken)) =
     Begins bytes (said found) × (taken ≡ length (spelling (said found))) × ((s : Said) → Begins bytes s → s ≡ said found)
 Reads bytes None = (s : Said) → Begins bytes s → ⊥
+
+-- spelling a record puts its bytes behind those that are there; one that has too many samples puts none; of a want of memory nothing is said
+abbrev pub Spelt : Said → List ℕ → Result (Unit {0}) SpellError → List ℕ → Type 0
+Spelt s before (Ok _) after = (samples_in s ≤ 1024) × (after ≡ before ++ spelling s)
+Spelt s before (Err TooLong) after = (1024 < samples_in s) × (after ≡ before)
+Spelt s before (Err OutOfMemory) after = Unit {0}
 
 -- a byte that names no kind of cost
 abbrev pub NamesNoKind : ℕ → Type 0

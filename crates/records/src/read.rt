@@ -6,7 +6,7 @@ use crate::record::{Kind, Record};
 use channels::channel::Channel;
 
 // The most samples that one record holds.
-const MOST: usize = 1024;
+pub(crate) const MOST: usize = 1024;
 
 // The record at the front of the bytes, and how many bytes it takes; none if they begin with none, with a cut one, or with one of more
 // than 1,024 samples.
