@@ -1,11 +1,11 @@
 """A coder and decoder written from the rules in docs/, apart from the code of this repository.
 
     python3 tools/reference.py play < crates/readburst/stdin       what readburst is to print of a recording
+    python3 tools/reference.py send $(cat crates/sendburst/args) < crates/sendburst/stdin       what sendburst is to write of messages
     python3 tools/reference.py vectors < crates/vectors/stdin      what vectors is to print of an outside encoder's bursts
 
-The stored outputs of both programs are what it makes. `vectors` also holds each burst against the one that this coder makes, and says on
-standard error of each block whether it is not the message sent, not the only one of the least cost, or told with a cost or a heard
-count that are not those of what was done to the burst.
+The stored outputs of the programs are what it makes. `vectors` also says on standard error of each block whether it is not the message
+sent, not the only one of the least cost, or told with a cost or a heard count that are not those of what was done to the burst.
 """
 
 import sys
@@ -138,6 +138,10 @@ class Ranked:
         return "%d/%d" % cost
 
 
+KINDS = [Count, Ranked]
+NAMES = ["bench", "bcch", "data24", "data96"]
+
+
 def decoded(channel, kind, due):
     """The path of the trellis rule without its closing zeros, its cost, and how many paths cost as little."""
     kept = {(0,) * channel.memory: (kind.zero, (), 1)}
@@ -229,16 +233,13 @@ def play(data):
             return
         mark, given, taken = found
         if mark == b"OP":
-            receiver = Receiver(CHANNELS[given[0]], (Count, Ranked)[given[1]])
+            receiver = Receiver(CHANNELS[given[0]], KINDS[given[1]])
             yield "O %d" % given[0]
         elif mark == b"HE":
             yield receiver.hear([receiver.kind.of_byte(byte) for byte in given])
         else:
             yield {b"MI": receiver.miss, b"ST": receiver.stolen, b"RE": receiver.restart}[mark]()
         at += taken
-
-
-NAMES = {"BCCH": 1, "DATA24": 2, "DATA96": 3}
 
 
 def heard_under(condition, kind, n, burst):
@@ -254,19 +255,27 @@ def heard_under(condition, kind, n, burst):
     return clean
 
 
-def check_bursts(name, channel, messages, bursts):
-    """Holds each burst against what the messages send: places due to a block before the first have a 0, turned."""
+def sent(channel, messages):
+    """The bursts that carry the messages: places due to a block before the first have a 0, turned."""
     blocks = [channel.laid(message + (parity(message) if channel.parity else [])) for message in messages]
     nothing = [0] * channel.burst
     for place, turn in channel.places.values():
         nothing[place] = turn
-    for n, burst in enumerate(bursts):
-        made = []
-        for place in range(channel.burst):
-            block = n - place % channel.depth
-            made.append(blocks[block][place] if block >= 0 else nothing[place])
-        if made != burst:
-            sys.exit("%s burst %d is not that of the messages" % (name, n))
+    for n in range(len(messages)):
+        due = [n - place % channel.depth for place in range(channel.burst)]
+        yield [blocks[block][place] if block >= 0 else nothing[place] for place, block in enumerate(due)]
+
+
+def compared(name, made, outside):
+    """The lines that tell which of the bursts made are not the outside encoder's, and how many are."""
+    alike = 0
+    for n, (ours, theirs) in enumerate(zip(made, outside)):
+        longer = range(max(len(ours), len(theirs)))
+        other = [place for place in longer if ours[place : place + 1] != theirs[place : place + 1]]
+        if other:
+            yield "%s sent burst %d otherwise, first at place %d" % (name, n, other[0])
+        alike += not other
+    yield "%s sent %d of %d bursts as the outside encoder" % (name, alike, len(outside))
 
 
 def bits(word):
@@ -296,13 +305,13 @@ def doubts(receiver, line, messages, bursts):
 
 
 def vectors(lines):
-    sent = [line.split() for line in lines]
-    for name, number in NAMES.items():
-        channel = CHANNELS[number]
-        messages = [bits(line[1]) for line in sent if line[0] == name]
-        bursts = [bits(line[2]) for line in sent if line[0] == name]
-        check_bursts(name, channel, messages, bursts)
-        for kind in (Count, Ranked):
+    given = [line.split() for line in lines]
+    for name in ("BCCH", "DATA24", "DATA96"):
+        channel = CHANNELS[NAMES.index(name.lower())]
+        messages = [bits(line[1]) for line in given if line[0] == name]
+        bursts = [bits(line[2]) for line in given if line[0] == name]
+        yield from compared(name, list(sent(channel, messages)), bursts)
+        for kind in KINDS:
             for condition in ("clean", "noise", "erasures", "lost"):
                 receiver = Receiver(channel, kind)
                 for n, burst in enumerate(bursts):
@@ -313,11 +322,28 @@ def vectors(lines):
                         print("%s %s %s %s: %s" % (name, kind.name, condition, line.split()[1], doubt), file=sys.stderr)
 
 
+def send(words, lines):
+    """What sendburst is to write: the bursts as figures, or a recording of them by the clean samples of a kind."""
+    *options, name = words
+    number = NAMES.index(name)
+    bursts = sent(CHANNELS[number], [bits(line) for line in lines])
+    if not options:
+        return "".join("".join(map(str, burst)) + "\n" for burst in bursts).encode()
+    kind = [kind.name for kind in KINDS].index(options[1])
+    written = b"OP" + bytes([number, kind])
+    for burst in bursts:
+        written += b"HE" + len(burst).to_bytes(2, "big") + bytes(KINDS[kind].heard(bit, 127) & 255 for bit in burst)
+    return written
+
+
 if __name__ == "__main__":
     if sys.argv[1:] == ["play"]:
         made = play(sys.stdin.buffer.read())
     elif sys.argv[1:] == ["vectors"]:
         made = vectors(sys.stdin.read().splitlines())
+    elif len(sys.argv) > 2 and sys.argv[1] == "send":
+        sys.stdout.buffer.write(send(sys.argv[2:], sys.stdin.read().splitlines()))
+        made = []
     else:
         sys.exit(__doc__)
     for line in made:

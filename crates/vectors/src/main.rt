@@ -1,9 +1,11 @@
-// Decodes the bursts of an outside encoder on each channel, by each kind of cost and under each condition, and prints a line for each answer.
+// Holds the sender's bursts against those of an outside encoder, and decodes the outside ones on each channel, by each kind of cost and under
+// each condition; prints how many were sent alike, and a line for each answer.
 #![tactic(auto)]
 
 mod condition;
 mod decoding;
 mod hearing;
+mod sending;
 mod trial;
 mod vector;
 mod voiced;
@@ -11,11 +13,13 @@ mod voiced;
 use cost::count::Count;
 use cost::ranked::Ranked;
 use decoding::decode;
+use sending::send;
 use std::io::Read;
 use vector::{CHANNELS, Vector, read_vectors};
 
-fn decode_all(rt: &HostRuntime, vectors: &[Vector<'_>]) -> anyhow::Result<()> {
+fn try_all(rt: &HostRuntime, vectors: &[Vector<'_>]) -> anyhow::Result<()> {
     for (name, channel) in CHANNELS {
+        send(rt, name, channel, vectors)?;
         decode::<Count>(rt, name, channel, vectors)?;
         decode::<Ranked>(rt, name, channel, vectors)?;
     }
@@ -26,5 +30,5 @@ fn main(rt: HostRuntime) -> anyhow::Result<()> {
     let mut text = String::new(rt.alloc());
     rt.stdin().read_to_string(&mut text)?;
     let vectors = read_vectors(rt.alloc(), text.as_str())?;
-    decode_all(&rt, &vectors)
+    try_all(&rt, &vectors)
 }

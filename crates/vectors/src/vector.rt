@@ -12,6 +12,7 @@ pub(crate) const CHANNELS: [(&str, Channel); 3] = [
 #[derive(Clone, Copy)]
 pub(crate) struct Vector<'a> {
     pub(crate) channel: Channel,
+    pub(crate) message: &'a [u8],
     pub(crate) burst: &'a [u8],
 }
 
@@ -31,10 +32,14 @@ fn bad_line(number: usize) -> anyhow::Error {
 fn read_line<'a>(line: &'a str) -> Option<Vector<'a>> {
     let mut words = line.split_whitespace();
     let channel = channel_named(words.next()?)?;
-    figures(words.next()?)?;
+    let message = figures(words.next()?)?;
     let burst = figures(words.next()?)?;
     match words.next() {
-        None => Some(Vector { channel, burst }),
+        None => Some(Vector {
+            channel,
+            message,
+            burst,
+        }),
         Some(_) => None,
     }
 }
