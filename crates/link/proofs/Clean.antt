@@ -17,6 +17,7 @@ use Rattle.trellis.specs.Clean.{CleanOf, CleanAnswer}
 use Rattle.trellis.specs.Coding.{coded_bit}
 use Rattle.trellis.specs.Codes.{rows_of}
 use Rattle.trellis.specs.Parity.{remainder, parity_of, with_parity}
+use Rattle.trellis.proofs.Bitwise.{odd_bit, xor_comm}
 use Rattle.trellis.proofs.Cleans.{heard_clean}
 use Rattle.trellis.proofs.Parities.{with_parity_length, parity_closes}
 use Rattle.trellis.proofs.Soundness.{sound_parts}
@@ -35,7 +36,6 @@ use Rattle.link.specs.Rules.{first, open_rules, between, steps_of, steps}
 use Rattle.link.specs.Sending.{run_of}
 use Rattle.link.specs.Streams.{Stream, AllStreams, BurstOf}
 use Rattle.link.proofs.FirstRule.{first_none, unless_none}
-use Rattle.link.proofs.Writing.{odd_bit}
 
 -- what both ends agree on, beside the format: what opening has checked of it
 pub record Agreed {L : Type 0} (l : line.Ghosts L) (f : Format L) : Type 0 where
@@ -43,13 +43,6 @@ pub record Agreed {L : Type 0} (l : line.Ghosts L) (f : Format L) : Type 0 where
   pub lays : f.burst ≡ l.sent f.line
   pub coded : l.coded f.line ≡ f.code.rows * steps f
   pub parity : (f.parity ≡ 0) ⊎ (f.parity ≡ 16)
-
--- a sum is the same either way
-xor_comm : (a b : Bool) → xor a b ≡ xor b a
-xor_comm true true = refl
-xor_comm true false = refl
-xor_comm false true = refl
-xor_comm false false = refl
 
 -- of numbers that all pass, all are counted
 count_all : (test : ℕ → Bool) (from n : ℕ) → ((i : ℕ) → i < from + n → test i ≡ true) → count_by test (range_with_len from n) ≡ n

@@ -1,8 +1,7 @@
 -- Writing the lowest bits of a number, the highest first.
-use Rattle.std.proofs.Common.{◌≡◌, ℕ, zero, suc, ◌+◌, ◌-◌, ◌/◌, ◌^◌, ◌<◌, Bool, false, List, [], ◌∷◌, ◌++◌, length, get_or, map, reverse, set, take, drop, replicate, true, ap₂, refl, add-one, length-append, ◌≢◌, sym, ap, ◌∙◌, div-one, arith, below_more}
+use Rattle.std.proofs.Common.{◌≡◌, ℕ, zero, suc, ◌+◌, ◌-◌, ◌/◌, ◌^◌, ◌<◌, Bool, false, List, [], ◌∷◌, ◌++◌, length, get_or, map, reverse, set, take, drop, replicate, ap₂, refl, add-one, length-append, ◌≢◌, sym, ap, ◌∙◌, arith, below_more}
 use lib.Bits.{bit_and, and_mask}
 use Rattle.std.proofs.lemmas.List.{get_or-set_other, get_or-set_same, get_or-reverse, get_or-map, ext_get_or, length-map, map-append, map-id, reverse-append, append-nil, drop-replicate, drop_all, length-take-le, length-reverse}
-use Rattle.std.proofs.lemmas.Nat.{shr-shr}
 use Rattle.std.proofs.Math.Seq.{take-append_seam, drop-append_seam}
 use Rattle.std.proofs.lemmas.Grind.{replicate_next}
 use Rattle.std.proofs.lemmas.Simd.{map-map}
@@ -10,16 +9,8 @@ use mathlib.Core.Path.{fun_ext}
 use lib.ListN.{length-replicate}
 use Rattle.trellis.specs.Parity.{remainder, parity_of, with_parity}
 use Rattle.trellis.specs.Bits.{odd, bit_of, bits}
-use Rattle.trellis.proofs.Bitwise.{bit_of_odd}
-use Rattle.trellis.proofs.Numbers.{bits_length}
-
--- bit i of a number
-bits_at : (n v i : ℕ) → i < n → get_or (bits n v) i false ≡ odd (v / 2 ^ i)
-bits_at zero v i h = absurd (omega arith)
-bits_at (suc n) v zero h = ap odd (sym (div-one v))
-bits_at (suc n) v (suc i) h =
-    let on : 1 + i ≡ suc i = omega arith in
-    bits_at n (v / 2) i (omega arith) ∙ ap odd (shr-shr v 1 i ∙ ap (λ k. v / 2 ^ k) on)
+use Rattle.trellis.proofs.Bitwise.{bit_of_odd, odd_bit}
+use Rattle.trellis.proofs.Numbers.{bits_at, bits_length}
 
 module _ (v n : ℕ) where
   -- the n lowest bits, the highest first
@@ -60,12 +51,7 @@ module _ (v n : ℕ) where
       let long : length written ≡ n = simp (length-map, length-reverse) (bits_length n v) in
       ext_get_or 0 row written (omega arith) (λ i h. below i (omega arith))
 
--- a bit written in a byte is read as itself
-pub odd_bit : (b : Bool) → odd (bit_of b) ≡ b
-odd_bit true = refl
-odd_bit false = refl
-
--- and so are bits
+-- bits written in bytes are read as themselves
 odd_bits : (r : List Bool) → map odd (map bit_of r) ≡ r
 odd_bits r = map-map odd bit_of r ∙ ap (λ f. map f r) (fun_ext odd_bit) ∙ map-id r
 

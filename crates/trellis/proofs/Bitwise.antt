@@ -33,6 +33,15 @@ pub xor_none : (b : Bool) → xor b false ≡ b
 xor_none true = refl
 xor_none false = refl
 
+-- a sum is the same either way
+pub xor_comm : (a b : Bool) → xor a b ≡ xor b a
+xor_comm true b = other b
+  where
+    other : (b : Bool) → not b ≡ xor b true
+    other true = refl
+    other false = refl
+xor_comm false b = sym (xor_none b)
+
 -- the sum of two bits as numbers
 pub bit_of_xor : (a b : Bool) → bit_of (xor a b) ≡ bit_xor (bit_of a) (bit_of b)
 bit_of_xor true true = refl
@@ -50,6 +59,11 @@ xor_over false b c = ap (λ x. xor x c) (sym (xor_none b))
 bit_is : (b : Bool) → eqb (bit_of b) 1 ≡ b
 bit_is true = refl
 bit_is false = refl
+
+-- so is one that is read off its byte
+pub odd_bit : (b : Bool) → odd (bit_of b) ≡ b
+odd_bit true = refl
+odd_bit false = refl
 
 -- a bit below a number's bits is its lowest
 pub odd_below : (v : ℕ) (b : Bool) → odd (v * 2 + bit_of b) ≡ b

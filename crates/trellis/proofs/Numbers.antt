@@ -1,8 +1,8 @@
 -- Windows and registers as numbers.
-use Rattle.std.proofs.Common.{◌≡◌, ℕ, zero, suc, ◌+◌, ◌*◌, ◌/◌, ◌%◌, ◌^◌, ◌<◌, ◌≤◌, min, Bool, true, false, not, ◌&&◌, eqb, ◌⊎◌, List, [], ◌∷◌, ◌++◌, length, get_or, set, sym, refl, ap, ◌∙◌, ap₂, inl, inr, pow-suc, arith, length-set, get_or-set_other, get_or-set_same}
+use Rattle.std.proofs.Common.{◌≡◌, ℕ, zero, suc, ◌+◌, ◌*◌, ◌/◌, ◌%◌, ◌^◌, ◌<◌, ◌≤◌, min, Bool, true, false, not, ◌&&◌, eqb, ◌⊎◌, List, [], ◌∷◌, ◌++◌, length, get_or, set, sym, refl, ap, ◌∙◌, ap₂, inl, inr, div-one, pow-suc, arith, length-set, get_or-set_other, get_or-set_same}
 use lib.Bits.{bit_and, and_step, and_zero_l}
 use lib.Count.{ones, ones_step}
-use Rattle.std.proofs.lemmas.Nat.{div-mul-add, mod-mul-add}
+use Rattle.std.proofs.lemmas.Nat.{div-mul-add, mod-mul-add, shr-shr}
 use Rattle.std.proofs.lemmas.Bool.{cases_eq, eq-eqb, ne_eqb, and_left, and_right}
 use Rattle.trellis.specs.Bits.{odd, xor, bit_of, bits, empty}
 use Rattle.trellis.specs.Codes.{summed}
@@ -41,6 +41,14 @@ window_other costs p w c d ne =
 pub bits_length : (n v : ℕ) → length (bits n v) ≡ n
 bits_length zero v = refl
 bits_length (suc n) v = ap suc (bits_length n (v / 2))
+
+-- bit i of a number
+pub bits_at : (n v i : ℕ) → i < n → get_or (bits n v) i false ≡ odd (v / 2 ^ i)
+bits_at zero v i h = absurd (omega arith)
+bits_at (suc n) v zero h = ap odd (sym (div-one v))
+bits_at (suc n) v (suc i) h =
+    let on : 1 + i ≡ suc i = omega arith in
+    bits_at n (v / 2) i (omega arith) ∙ ap odd (shr-shr v 1 i ∙ ap (λ k. v / 2 ^ k) on)
 
 -- the register behind a number's bits has its lowest ones
 pub register_bits : (n k v : ℕ) → n ≤ k → register n (bits k v) ≡ bits n v
