@@ -18,4 +18,6 @@ mod ranked;
 #[cfg(test)]
 mod recordings;
 #[cfg(test)]
+mod sending;
+#[cfg(test)]
 mod told;

@@ -8,6 +8,7 @@ mod blocks;
 mod faults;
 mod marks;
 mod refusals;
+mod spelt;
 
 // A recording, and the lines that are expected of it.
 fn prints(rt: &impl Abort, alloc: Global, bytes: &[u8], lines: &str) -> Result<(), Fail> {
