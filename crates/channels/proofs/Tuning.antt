@@ -1,7 +1,6 @@
 -- What is opened for a channel is what the channel sets: a receiver that hears its first row, and a sender that puts what the standard describes.
 use Rattle.std.proofs.Common.{◌≡◌, ℕ, ◌<◌, Bool, List, [], ◌↔◌, length, get_or, sym, ap, ◌∙◌, subst}
 use Rattle.cost.specs.declared.kind.Cost as cost
-use Rattle.line.specs.Lawful.{Laws}
 use Rattle.link.specs.BothEnds.{Alike}
 use Rattle.link.specs.Opening.{Holds, Opened, SenderOpened}
 use Rattle.link.specs.declared.format.Format.{Format}
@@ -9,19 +8,13 @@ use Rattle.link.specs.Streams.{Stream, BurstOf}
 use Rattle.link.specs.declared.proposal.Proposal.{Proposal}
 use Rattle.link.specs.declared.receiver.Receiver.{Receiver}
 use Rattle.link.specs.declared.sender.Sender.{Sender}
-use Rattle.link.proofs.Streaming.{burst_only}
 use Rattle.channels.specs.Channels.{Lays, Proposes, Tuned, TunedSender, terms, asked}
 use Rattle.channels.specs.Layings.{laying_line}
-use Rattle.channels.specs.LayingsLemmas.{within, apart, filled, ended}
 use Rattle.channels.specs.Standard.{StandardBurst, standard}
 use Rattle.channels.specs.declared.channel.Channel.{Channel}
 use Rattle.channels.specs.declared.laying.Laying.{Laying}
 use Rattle.channels.proofs.FirstRows.{first_row}
 use Rattle.channels.proofs.StandardBursts.{same_burst}
-
--- the laws of the channels' line
-laying_laws : Laws laying_line
-laying_laws = record { within = within; apart = apart; filled = filled; ended = ended }
 
 -- two formats that hold what one channel sets are alike
 understood : (channel : Channel) (x y : Laying) → Lays (terms channel) x → Lays (terms channel) y → (f g : Format Laying) →
@@ -56,20 +49,18 @@ module _ (channel : Channel) (p : Proposal Laying) (proposed : Proposes channel 
 
     module _ (s' : Sender Laying) (ring : List ℕ) (messages : List (List Bool)) (bursts : List (List ℕ)) (n : ℕ)
         (past : Stream laying_line s s' ring messages bursts) (h : n < length messages) where
-      -- what is put is the burst of its number
-      put : BurstOf laying_line s.format messages n (get_or bursts n [])
-      put = here.streams.bursts s' ring messages bursts n past h
-
-      -- which is what the standard describes
+      -- the burst of its number is what the standard describes
       both : (burst : List ℕ) → BurstOf laying_line s.format messages n burst ↔ StandardBurst (standard channel) messages n burst
       both burst = same_burst channel p.line s.format here.format proposed.lays.burst proposed.lays.places messages n h burst
-          (λ b. here.streams.lengths s' ring messages bursts b past)
+          (here.streams.puts s' ring messages bursts past).lengths
 
-      -- and nothing else is
+      -- so what is put is
+      put : StandardBurst (standard channel) messages n (get_or bursts n [])
+      put = (both (get_or bursts n [])).0 ((here.streams.puts s' ring messages bursts past).each n h)
+
+      -- and nothing else
       put_only : (burst : List ℕ) → StandardBurst (standard channel) messages n burst → burst ≡ get_or bursts n []
-      put_only burst described =
-          let lays : s.format.burst ≡ laying_line.sent s.format.line = here.format.burst ∙ ap laying_line.sent (sym here.format.line) in
-          burst_only laying_laws s.format lays messages n burst (get_or bursts n []) ((both burst).1 described) put
+      put_only burst described = here.streams.only s' ring messages bursts n burst past h ((both burst).1 described)
 
     -- so it puts exactly that
     pub tuned_sender : TunedSender channel s
@@ -77,6 +68,6 @@ module _ (channel : Channel) (p : Proposal Laying) (proposed : Proposes channel 
       line = p.line;
       lays = proposed.lays;
       opened = here;
-      described = λ s' ring messages bursts n past h. (both s' ring messages bursts n past h (get_or bursts n [])).0 (put s' ring messages bursts n past h);
+      described = put;
       only = put_only;
     }

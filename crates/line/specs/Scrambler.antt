@@ -1,4 +1,4 @@
--- The scrambler: a burst's bits are turned over where the masking sequence, begun anew at each block, has a one.
+-- The scrambler: a burst's bits are turned over where the masking sequence, begun anew at each burst, has a one.
 use Rattle.std.specs.Prelude.{ℕ, zero, suc, ◌+◌, ◌*◌, Bool, true, false, cond, not, List, [], ◌∷◌, take, Some, None, Option, slice_index_or}
 
 -- the sum modulo 2; a word of its own, since the library's does not compute in a proof

@@ -13,7 +13,7 @@ use Rattle.cost.proofs.Lawful.{Laws, clean_heard}
 use Rattle.line.specs.declared.laying.Line as line
 use Rattle.line.specs.Lawful as lines
 use Rattle.trellis.specs.Bits.{odd, xor, bit_of}
-use Rattle.trellis.specs.Clean.{CleanOf, CleanAnswer}
+use Rattle.trellis.proofs.Clean.{CleanOf, CleanAnswer}
 use Rattle.trellis.specs.Coding.{coded_bit}
 use Rattle.trellis.specs.Codes.{rows_of}
 use Rattle.trellis.specs.Parity.{remainder, parity_of, with_parity}
@@ -24,17 +24,16 @@ use Rattle.trellis.proofs.Soundness.{sound_parts}
 use Rattle.link.specs.declared.format.Format.{Format}
 use Rattle.link.specs.declared.proposal.Proposal.{Proposal}
 use Rattle.link.specs.declared.receiver.Receiver.{Receiver}
-use Rattle.link.specs.declared.sender.Sender.{Sender}
 use Rattle.link.specs.declared.refusal.Refusal.TheVariants.{WrongParity}
 use Rattle.link.specs.declared.report.Answer.TheVariants.{Block}
 use Rattle.link.specs.BothEnds.{Alike, FirstRowSent, HeardClean, costless_report, AsSent, AllAsSent}
-use Rattle.link.specs.Calls.{right, written, Reply, answer_due, report_of, silence}
+use Rattle.link.specs.Calls.{right, written, Reply, answer_due, report_of}
 use Rattle.link.specs.Due.{burst_of, placed, met_on, in_bursts, heard_of}
 use Rattle.link.specs.Histories.{Best, AllSound}
 use Rattle.link.specs.Opening.{Holds}
 use Rattle.link.specs.Rules.{first, open_rules, between, steps_of, steps}
 use Rattle.link.specs.Sending.{run_of}
-use Rattle.link.specs.Streams.{Stream, AllStreams, BurstOf}
+use Rattle.link.specs.Streams.{BurstOf}
 use Rattle.link.proofs.FirstRule.{first_none, unless_none}
 
 -- what both ends agree on, beside the format: what opening has checked of it
@@ -208,27 +207,13 @@ agreed_on {B} l a f five none holds =
 
 module _ {C S P L : Type 0} {k : cost.Ghosts C S P} (laws : Laws k) {l : line.Ghosts L} (line_laws : lines.Laws l) (opened : Receiver C L S P)
     (agreed : Agreed l opened.format) (sound : AllSound k l opened) where
-  -- a block that is told as claimed, heard as a sender of such a format sent it, is answered as it was sent
-  told_as_sent : (begun s : Sender L) (ring : List ℕ) (messages : List (List Bool)) (sent : List (List ℕ)) → AllStreams l begun → Alike l begun.format opened.format →
-      Stream l begun s ring messages sent → (bursts : List (List S)) (b c : ℕ) → HeardClean k l opened.format bursts b sent c →
-      (block : List ℕ) (reply : Reply k l) (block' : List ℕ) → Best k l opened.format bursts b block reply block' →
-      AsSent k l opened.format bursts b (get_or messages c []) block reply block'
-  told_as_sent begun s ring messages sent streams alike stream bursts b c heard =
-      let f = opened.format in
-      let each = streams.each s ring messages sent stream in
-      let some = f.least_depth in
-      let within : c < length messages = omega (arith, each, heard.ended) in
-      as_sent laws line_laws f agreed bursts b sent c messages
-      (λ n h. let early : n < length messages = omega (arith, each) in burst_alike l begun.format f alike messages n (get_or sent n []) (streams.bursts s ring messages sent n stream early))
-      heard (streams.lengths s ring messages sent c stream within ∙ alike.message)
-
-  -- so every block that is heard clean is
+  -- every block that is heard clean is answered as it was sent
   pub all_as_sent : AllAsSent k l opened
-  all_as_sent = record {
-    hears = λ begun s ring messages sent streams alike stream r r' bursts samples m m' reply past hears none b c ends heard.
-        told_as_sent begun s ring messages sent streams alike stream (bursts ++ (samples ∷ [])) b c heard m.block reply m'.block
-        ((sound.hears r r' bursts samples m m' reply past hears).decides none b ends);
-    misses = λ begun s ring messages sent streams alike stream r r' bursts m m' reply past misses none b c ends heard.
-        told_as_sent begun s ring messages sent streams alike stream (bursts ++ (silence k l opened.format ∷ [])) b c heard m.block reply m'.block
-        ((sound.misses r r' bursts m m' reply past misses).decides none b ends);
-  }
+  all_as_sent f messages sent alike stream r r' bursts samples m m' reply past hears none b c ends heard =
+      let g = opened.format in
+      let some = g.least_depth in
+      let within : c < length messages = omega (arith, stream.as_many, heard.ended) in
+      as_sent laws line_laws g agreed (bursts ++ (samples ∷ [])) b sent c messages
+      (λ n h. let early : n < length messages = omega (arith, stream.as_many) in burst_alike l f g alike messages n (get_or sent n []) (stream.each n early))
+      heard (stream.lengths c within ∙ alike.message) m.block reply m'.block
+      ((sound.hears r r' bursts samples m m' reply past hears).decides none b ends)

@@ -4,6 +4,7 @@ use Rattle.std.proofs.lemmas.List.{length-drop, length-reverse, reverse-append, 
 use Rattle.std.proofs.lemmas.Bool.{cond-true, cond-false}
 use Rattle.cost.specs.declared.kind.Cost as cost
 use Rattle.line.specs.declared.laying.Line as line
+use Rattle.trellis.proofs.Bitwise.{odd_bits}
 use Rattle.trellis.specs.Bits.{odd, bit_of}
 use Rattle.trellis.specs.Codes.{rows_of}
 use Rattle.trellis.specs.Parity.{remainder}
@@ -16,12 +17,6 @@ use Rattle.link.specs.declared.report.Report.{Report}
 use Rattle.link.specs.Calls.{Decides, Finds, protected, right}
 use Rattle.link.specs.Due.{met_on}
 use Rattle.link.specs.Rules.{needed, steps}
-
--- a bit written as a number and read again is the bit
-odd_bits : (bs : List Bool) → map odd (map bit_of bs) ≡ bs
-odd_bits [] = refl
-odd_bits (true ∷ bs) = ap (λ xs. true ∷ xs) (odd_bits bs)
-odd_bits (false ∷ bs) = ap (λ xs. false ∷ xs) (odd_bits bs)
 
 -- all but the last n of a list turned round
 take_reverse : {X : Type 0} (n k : ℕ) (xs : List X) → length xs ≡ k + n → take k (reverse xs) ≡ reverse (drop n xs)

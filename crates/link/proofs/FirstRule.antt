@@ -66,7 +66,7 @@ module _ {B : Type 0} where
         by_test false h = each place
 
     -- where none is refused, all are such
-    pub all_such_none : (place : ℕ) (xs : List S) → all_such such refusal place xs ≡ None → AllByRecursion (λ x. such x ≡ true) xs
+    all_such_none : (place : ℕ) (xs : List S) → all_such such refusal place xs ≡ None → AllByRecursion (λ x. such x ≡ true) xs
     all_such_none place [] e = tt
     all_such_none place (x ∷ xs) e = by_test (such x) refl e (all_such_none (suc place) xs)
       where

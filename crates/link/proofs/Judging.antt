@@ -10,7 +10,7 @@ use Rattle.link.specs.Calls.{Memory, Reply, Counts, Judges}
 use Rattle.link.specs.declared.sender.Sender.{Sender}
 use Rattle.link.specs.Due.{laid_at, stored}
 use Rattle.link.specs.Rules.{passed}
-use Rattle.link.specs.Sending.{SenderMemory, SendReply, Interleaved, Spread, SendsBy}
+use Rattle.link.specs.Sending.{SenderMemory, SendReply, BlockByPlace, BurstFromRing, SendsBy}
 use Rattle.trellis.specs.Bits.{odd}
 
 module _ {C S P L : Type 0} (k : cost.Ghosts C S P) (l : line.Ghosts L) (samples : List S) (r : Receiver C L S P) (m : Memory S P) (reply : Reply k l) where
@@ -38,8 +38,8 @@ module _ {L : Type 0} (l : line.Ghosts L) (message : List ℕ) (s : Sender L) (m
 
   -- where the checks pass, the send that keeps the block in the ring and puts the burst sends it
   pub sends_taken : (ring burst : List ℕ) (rules : Option (Refusal Infallible)) → Ok tt ≡ passed rules →
-      (block : List ℕ) × Interleaved l s.format (map odd message) block × (ring ≡ stored s.format s.counted block m.ring) →
-      (row : List ℕ) × Spread l s.format s.counted ring row × (burst ≡ laid_at 0 row m.burst) →
+      (block : List ℕ) × BlockByPlace l s.format (map odd message) block × (ring ≡ stored s.format s.counted block m.ring) →
+      (row : List ℕ) × BurstFromRing l s.format s.counted ring row × (burst ≡ laid_at 0 row m.burst) →
       SendsBy l rules message s m (Ok s.counted) (record s { counted = s.counted + 1 }) (record { ring = ring; burst = burst })
   sends_taken ring burst None e (block, interleaved, kept) (row, spread, put) = record {
     replied = refl;

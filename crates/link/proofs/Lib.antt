@@ -1,7 +1,6 @@
 pub mod Best
 pub mod Clean
 pub mod Deciding
-pub mod Filling
 pub mod FirstRule
 pub mod Judging
 pub mod KeptBursts

@@ -14,8 +14,8 @@ use Rattle.link.specs.declared.refusal.Refusal.{Refusal}
 use Rattle.link.specs.declared.sender.Sender.{Sender}
 use Rattle.link.specs.Due.{burst_of, cell, stored}
 use Rattle.link.specs.Rules.{first, send_rules}
-use Rattle.link.specs.Sending.{SenderMemory, sender_sizes, SendReply, run_of, carried, Interleaved, Spread, Sent, SendsBy}
-use Rattle.link.specs.Streams.{sending, Stream, begun, sends, BurstOf, StreamSound, AllStreams}
+use Rattle.link.specs.Sending.{SenderMemory, sender_sizes, SendReply, run_of, carried, BlockByPlace, BurstFromRing, Sent, SendsBy}
+use Rattle.link.specs.Streams.{sending, Stream, begun, sends, BurstOf, StreamOf, StreamSound, AllStreams}
 use Rattle.link.proofs.FirstRule.{first_none, unless_none}
 use Rattle.link.proofs.Rings.{stored_own, stored_other}
 
@@ -41,7 +41,7 @@ module _ {L : Type 0} {l : line.Ghosts L} (laws : Laws l) (f : Format L) (lays :
 
   -- and of one more, where it is stored
   keeps_block : (ring block : List ℕ) (messages : List (List Bool)) (message : List Bool) → KeepsBlocks ring messages → f.depth * f.burst ≤ length ring →
-      Interleaved l f message block → KeepsBlocks (stored f (length messages) block ring) (messages ++ (message ∷ []))
+      BlockByPlace l f message block → KeepsBlocks (stored f (length messages) block ring) (messages ++ (message ∷ []))
   keeps_block ring block messages message keeps enough laid i j k turned h near e = elim (cases_eq i (length messages)) [
     | inl same ↦
         ap (λ b. get_or (stored f n block ring) (cell f b k) 0) same
@@ -80,7 +80,7 @@ module _ {L : Type 0} {l : line.Ghosts L} (laws : Laws l) (f : Format L) (lays :
 
   -- so a burst that takes its bits from the ring is the burst of its number
   spread_burst : (ring burst : List ℕ) (messages : List (List Bool)) (n : ℕ) → KeepsBlocks ring messages → length messages ≡ n + 1 →
-      Spread l f n ring burst → BurstOf l f messages n burst
+      BurstFromRing l f n ring burst → BurstOf l f messages n burst
   spread_burst ring burst messages n keeps many spread = record {
     whole = spread.whole;
     carries = λ j k b turned e due.
@@ -105,10 +105,8 @@ module _ {L : Type 0} {l : line.Ghosts L} (laws : Laws l) (f : Format L) (lays :
   record Invariant (s : Sender L) (ring : List ℕ) (messages : List (List Bool)) (bursts : List (List ℕ)) : Type 0 where
     format : s.format ≡ f
     counted : s.counted ≡ length messages
-    each : length bursts ≡ length messages
-    lengths : (b : ℕ) → b < length messages → length (get_or messages b []) ≡ f.message
     keeps : KeepsBlocks ring messages
-    right : (n : ℕ) → n < length messages → BurstOf l f messages n (get_or bursts n [])
+    puts : StreamOf l f messages bursts
 
   -- where no rule of a send is broken, the ring has room for the blocks
   room : (g : Format L) (m : SenderMemory) (counted : ℕ) (message : List ℕ) → first (send_rules {B = Infallible} g (sender_sizes m) counted message) ≡ None →
@@ -136,14 +134,14 @@ module _ {L : Type 0} {l : line.Ghosts L} (laws : Laws l) (f : Format L) (lays :
       kept : KeepsBlocks m'.ring messages'
       kept =
           let enough : f.depth * f.burst ≤ length m.ring = subst (λ g. g.depth * g.burst ≤ length m.ring) before.format (room s.format m s.counted message none) in
-          let laid = subst (λ g. Interleaved l g (map odd message) sent.block) before.format sent.interleaved in
+          let laid = subst (λ g. BlockByPlace l g (map odd message) sent.block) before.format sent.interleaved in
           let is : m'.ring ≡ stored f (length messages) sent.block m.ring = sent.ring ∙ (λ i. stored (before.format i) (before.counted i) sent.block m.ring) in
           subst (λ ring. KeepsBlocks ring messages') (sym is) (keeps_block m.ring sent.block messages (map odd message) before.keeps enough laid)
 
       -- and the burst is that of its number
       this_burst : BurstOf l f messages' (length messages) sent.burst
       this_burst = spread_burst m'.ring sent.burst messages' (length messages) kept many
-          (subst (λ g. Spread l g (length messages) m'.ring sent.burst) before.format (subst (λ n. Spread l s.format n m'.ring sent.burst) before.counted sent.spread))
+          (subst (λ g. BurstFromRing l g (length messages) m'.ring sent.burst) before.format (subst (λ n. BurstFromRing l s.format n m'.ring sent.burst) before.counted sent.spread))
 
       -- which is read at the front of the burst memory
       front : take s.format.burst m'.burst ≡ sent.burst
@@ -153,13 +151,13 @@ module _ {L : Type 0} {l : line.Ghosts L} (laws : Laws l) (f : Format L) (lays :
       right_more : (n : ℕ) → n < length messages' → BurstOf l f messages' n (get_or (bursts ++ (take s.format.burst m'.burst ∷ [])) n [])
       right_more n h = elim (cases_eq n (length messages)) [
         | inl same ↦
-            let last : length bursts ≡ n = omega (arith, before.each) in
+            let last : length bursts ≡ n = omega (arith, before.puts.as_many) in
             let read = get_or_push bursts (take s.format.burst m'.burst) [] n last ∙ front in
             subst (BurstOf l f messages' n) (sym read) (subst (λ k. BurstOf l f messages' k sent.burst) (sym same) this_burst)
         | inr other ↦
             let early : n < length messages = omega (arith, many) in
-            let read = get_or_append_left bursts (take s.format.burst m'.burst ∷ []) [] n (omega (arith, before.each)) in
-            subst (BurstOf l f messages' n) (sym read) (burst_stays messages (map odd message ∷ []) n (get_or bursts n []) early (before.right n early))
+            let read = get_or_append_left bursts (take s.format.burst m'.burst ∷ []) [] n (omega (arith, before.puts.as_many)) in
+            subst (BurstOf l f messages' n) (sym read) (burst_stays messages (map odd message ∷ []) n (get_or bursts n []) early (before.puts.each n early))
       ]
 
       -- each message is as long as the format has it
@@ -168,7 +166,7 @@ module _ {L : Type 0} {l : line.Ghosts L} (laws : Laws l) (f : Format L) (lays :
         | inl same ↦ ap length (get_or_push messages (map odd message) [] b (sym same)) ∙ long s.format m s.counted message none ∙ ap (λ g. g.message) before.format
         | inr other ↦
             let early : b < length messages = omega (arith, many) in
-            ap length (get_or_append_left messages (map odd message ∷ []) [] b early) ∙ before.lengths b early
+            ap length (get_or_append_left messages (map odd message ∷ []) [] b early) ∙ before.puts.lengths b early
       ]
 
       -- the invariant is kept
@@ -176,10 +174,12 @@ module _ {L : Type 0} {l : line.Ghosts L} (laws : Laws l) (f : Format L) (lays :
       sent_invariant = record {
         format = sent.format ∙ before.format;
         counted = sent.counted ∙ ap (λ n. n + 1) before.counted ∙ sym many;
-        each = length_push bursts (take s.format.burst m'.burst) ∙ ap (λ n. n + 1) before.each ∙ sym many;
-        lengths = lengths_more;
         keeps = kept;
-        right = right_more;
+        puts = record {
+          lengths = lengths_more;
+          as_many = length_push bursts (take s.format.burst m'.burst) ∙ ap (λ n. n + 1) before.puts.as_many ∙ sym many;
+          each = right_more;
+        };
       }
 
     -- a send keeps the invariant
@@ -204,6 +204,21 @@ module _ {L : Type 0} {l : line.Ghosts L} (laws : Laws l) (f : Format L) (lays :
       sends = λ e. (sent.replied ∙ ap Ok before.counted, (sent.burst, this_burst is sent, sent.put));
     }
 
+-- a stream has no more than one burst of each number
+burst_only : {L : Type 0} {l : line.Ghosts L} (laws : Laws l) (f : Format L) (lays : f.burst ≡ l.sent f.line) (messages : List (List Bool)) (n : ℕ) (one other : List ℕ) →
+    BurstOf l f messages n one → BurstOf l f messages n other → one ≡ other
+burst_only {L} {l} laws f lays messages n one other a b = ext_get_or 0 one other (a.whole ∙ sym b.whole) same
+  where
+    same : (k : ℕ) → k < length one → get_or one k 0 ≡ get_or other k 0
+    same k h =
+        let at = laws.filled f.line k (omega (arith, lays, a.whole)) in
+        elim (cases_lt n (k % f.depth)) [
+          | inl early ↦ a.before at.0 k at.1 at.2 early ∙ sym (b.before at.0 k at.1 at.2 early)
+          | inr late ↦
+              let due : burst_of f (n - k % f.depth) k ≡ n = omega arith in
+              a.carries at.0 k (n - k % f.depth) at.1 at.2 due ∙ sym (b.carries at.0 k (n - k % f.depth) at.1 at.2 due)
+        ]
+
 module _ {L : Type 0} {l : line.Ghosts L} (laws : Laws l) (opened : Sender L) (lays : opened.format.burst ≡ l.sent opened.format.line) (fresh : opened.counted ≡ 0) where
   -- every history leaves the invariant
   invariant : (s : Sender L) (ring : List ℕ) (messages : List (List Bool)) (bursts : List (List ℕ)) →
@@ -211,10 +226,8 @@ module _ {L : Type 0} {l : line.Ghosts L} (laws : Laws l) (opened : Sender L) (l
   invariant _ ring _ _ (begun _) = record {
     format = refl;
     counted = fresh;
-    each = refl;
-    lengths = λ b h. absurd (omega arith);
     keeps = λ i j k turned h near e. absurd (omega arith);
-    right = λ n h. absurd (omega arith);
+    puts = record { lengths = λ b h. absurd (omega arith); as_many = refl; each = λ n h. absurd (omega arith) };
   }
   invariant _ _ _ _ (sends s s' messages bursts message m m' reply past step) =
       sends_invariant laws opened.format lays s s' message m m' reply messages bursts (invariant s m.ring messages bursts past)
@@ -229,22 +242,8 @@ module _ {L : Type 0} {l : line.Ghosts L} (laws : Laws l) (opened : Sender L) (l
         (λ i. first (send_rules (before.format i) (sender_sizes m) (before.counted i) message))
         (sends_sound laws opened.format lays s s' message m m' reply messages bursts before
         (first (send_rules s.format (sender_sizes m) s.counted message)) refl step);
-    lengths = λ s ring messages bursts b past h. (invariant s ring messages bursts past).lengths b h;
-    each = λ s ring messages bursts past. (invariant s ring messages bursts past).each;
-    bursts = λ s ring messages bursts n past h. (invariant s ring messages bursts past).right n h;
+    puts = λ s ring messages bursts past. (invariant s ring messages bursts past).puts;
+    only = λ s ring messages bursts n burst past h o.
+        let puts = (invariant s ring messages bursts past).puts in
+        burst_only laws opened.format lays messages n burst (get_or bursts n []) o (puts.each n h);
   }
-
--- a stream has no more than one burst of each number
-pub burst_only : {L : Type 0} {l : line.Ghosts L} (laws : Laws l) (f : Format L) (lays : f.burst ≡ l.sent f.line) (messages : List (List Bool)) (n : ℕ) (one other : List ℕ) →
-    BurstOf l f messages n one → BurstOf l f messages n other → one ≡ other
-burst_only {L} {l} laws f lays messages n one other a b = ext_get_or 0 one other (a.whole ∙ sym b.whole) same
-  where
-    same : (k : ℕ) → k < length one → get_or one k 0 ≡ get_or other k 0
-    same k h =
-        let at = laws.filled f.line k (omega (arith, lays, a.whole)) in
-        elim (cases_lt n (k % f.depth)) [
-          | inl early ↦ a.before at.0 k at.1 at.2 early ∙ sym (b.before at.0 k at.1 at.2 early)
-          | inr late ↦
-              let due : burst_of f (n - k % f.depth) k ≡ n = omega arith in
-              a.carries at.0 k (n - k % f.depth) at.1 at.2 due ∙ sym (b.carries at.0 k (n - k % f.depth) at.1 at.2 due)
-        ]

@@ -1,15 +1,13 @@
 -- Writing the lowest bits of a number, the highest first.
 use Rattle.std.proofs.Common.{◌≡◌, ℕ, zero, suc, ◌+◌, ◌-◌, ◌/◌, ◌^◌, ◌<◌, Bool, false, List, [], ◌∷◌, ◌++◌, length, get_or, map, reverse, set, take, drop, replicate, ap₂, refl, add-one, length-append, ◌≢◌, sym, ap, ◌∙◌, arith, below_more}
 use lib.Bits.{bit_and, and_mask}
-use Rattle.std.proofs.lemmas.List.{get_or-set_other, get_or-set_same, get_or-reverse, get_or-map, ext_get_or, length-map, map-append, map-id, reverse-append, append-nil, drop-replicate, drop_all, length-take-le, length-reverse}
+use Rattle.std.proofs.lemmas.List.{get_or-set_other, get_or-set_same, get_or-reverse, get_or-map, ext_get_or, length-map, map-append, reverse-append, append-nil, drop-replicate, drop_all, length-take-le, length-reverse}
 use Rattle.std.proofs.Math.Seq.{take-append_seam, drop-append_seam}
 use Rattle.std.proofs.lemmas.Grind.{replicate_next}
-use Rattle.std.proofs.lemmas.Simd.{map-map}
-use mathlib.Core.Path.{fun_ext}
 use lib.ListN.{length-replicate}
 use Rattle.trellis.specs.Parity.{remainder, parity_of, with_parity}
 use Rattle.trellis.specs.Bits.{odd, bit_of, bits}
-use Rattle.trellis.proofs.Bitwise.{bit_of_odd, odd_bit}
+use Rattle.trellis.proofs.Bitwise.{bit_of_odd, odd_bits}
 use Rattle.trellis.proofs.Numbers.{bits_at, bits_length}
 
 module _ (v n : ℕ) where
@@ -50,10 +48,6 @@ module _ (v n : ℕ) where
   written_all row whole below =
       let long : length written ≡ n = simp (length-map, length-reverse) (bits_length n v) in
       ext_get_or 0 row written (omega arith) (λ i h. below i (omega arith))
-
--- bits written in bytes are read as themselves
-odd_bits : (r : List Bool) → map odd (map bit_of r) ≡ r
-odd_bits r = map-map odd bit_of r ∙ ap (λ f. map f r) (fun_ext odd_bit) ∙ map-id r
 
 -- zeros are even
 odd_zeros : (n : ℕ) → map odd (replicate n 0) ≡ replicate n false

@@ -10,13 +10,12 @@ use Rattle.link.specs.declared.receiver.Receiver.{Receiver}
 use Rattle.link.specs.declared.refusal.Refusal.TheVariants.{WrongParity}
 use Rattle.link.specs.declared.report.Answer.TheVariants.{Block}
 use Rattle.link.specs.declared.report.Report.{Report}
-use Rattle.link.specs.declared.sender.Sender.{Sender}
-use Rattle.link.specs.Calls.{Memory, sizes, right, written, Reply, cost_due, answer_due, Hears, Misses, silence}
+use Rattle.link.specs.Calls.{Memory, sizes, right, written, Reply, cost_due, answer_due, Hears}
 use Rattle.link.specs.Due.{burst_of, in_bursts}
 use Rattle.link.specs.Histories.{History}
-use Rattle.link.specs.Rules.{first, steps, hear_rules, miss_rules}
+use Rattle.link.specs.Rules.{first, steps, hear_rules}
 use Rattle.link.specs.Sending.{run_of}
-use Rattle.link.specs.Streams.{Stream, AllStreams}
+use Rattle.link.specs.Streams.{StreamOf}
 
 -- two formats by which a sender and a receiver understand each other: one code and the same lengths, and lines that lay each coded bit at the same place
 pub record Alike {L : Type 0} (l : line.Ghosts L) (f g : Format L) : Type 0 where
@@ -60,18 +59,11 @@ module _ {C S P L : Type 0} (k : cost.Ghosts C S P) (l : line.Ghosts L) where
     -- and the message is reported
     pub reported : FirstRowSent l f → (reply ≡ Ok (Block (costless_report f b))) × (block' ≡ map bit_of message ++ drop f.message block)
 
-  -- whatever a sender of such a format has sent, and whatever calls came before, a block that was heard clean is answered as it was sent
-  pub record AllAsSent (opened : Receiver C L S P) : Type 0 where
-    pub hears : (begun s : Sender L) (sender_ring : List ℕ) (messages : List (List Bool)) (sent : List (List ℕ)) →
-        AllStreams l begun → Alike l begun.format opened.format → Stream l begun s sender_ring messages sent →
-        (r r' : Receiver C L S P) (bursts : List (List S)) (samples : List S) (m m' : Memory S P) (reply : Reply k l) →
-        History k l opened r m.ring bursts → Hears k l samples r m reply r' m' → first (hear_rules k opened.format (sizes m) (length bursts) samples) ≡ None →
-        (b c : ℕ) → b + opened.format.depth ≡ length bursts + 1 → HeardClean opened.format (bursts ++ (samples ∷ [])) b sent c →
-        AsSent opened.format (bursts ++ (samples ∷ [])) b (slice_index_or messages c []) m.block reply m'.block
-    -- the last burst may be missed, where no place of it is due to the block
-    pub misses : (begun s : Sender L) (sender_ring : List ℕ) (messages : List (List Bool)) (sent : List (List ℕ)) →
-        AllStreams l begun → Alike l begun.format opened.format → Stream l begun s sender_ring messages sent →
-        (r r' : Receiver C L S P) (bursts : List (List S)) (m m' : Memory S P) (reply : Reply k l) →
-        History k l opened r m.ring bursts → Misses k l r m reply r' m' → first (miss_rules {B = Report C S P} opened.format (sizes m) (length bursts)) ≡ None →
-        (b c : ℕ) → b + opened.format.depth ≡ length bursts + 1 → HeardClean opened.format (bursts ++ (silence k l opened.format ∷ [])) b sent c →
-        AsSent opened.format (bursts ++ (silence k l opened.format ∷ [])) b (slice_index_or messages c []) m.block reply m'.block
+  -- whatever stream of a format that is alike was sent, and whatever calls came before, a block that was heard clean is answered as it was sent
+  abbrev pub AllAsSent : Receiver C L S P → Type 0
+  AllAsSent opened =
+      (f : Format L) (messages : List (List Bool)) (sent : List (List ℕ)) → Alike l f opened.format → StreamOf l f messages sent →
+      (r r' : Receiver C L S P) (bursts : List (List S)) (samples : List S) (m m' : Memory S P) (reply : Reply k l) →
+      History k l opened r m.ring bursts → Hears k l samples r m reply r' m' → first (hear_rules k opened.format (sizes m) (length bursts) samples) ≡ None →
+      (b c : ℕ) → b + opened.format.depth ≡ length bursts + 1 → HeardClean opened.format (bursts ++ (samples ∷ [])) b sent c →
+      AsSent opened.format (bursts ++ (samples ∷ [])) b (slice_index_or messages c []) m.block reply m'.block

@@ -36,17 +36,17 @@ module _ {L : Type 0} (f : Format L) where
 
 module _ {L : Type 0} (l : line.Ghosts L) where
   -- each coded place that is sent has its bit at its burst place, `bit j k turned` being that of coded place j
-  pub record Filled (f : Format L) (bit : ℕ → ℕ → Bool → Bool) (row : List ℕ) : Type 0 where
+  pub record ByPlace (f : Format L) (bit : ℕ → ℕ → Bool → Bool) (row : List ℕ) : Type 0 where
     pub whole : length row ≡ f.burst
     pub bits : (j k : ℕ) (turned : Bool) → l.place f.line j ≡ Some (k, turned) → k < f.burst → slice_index_or row k 0 ≡ bit_of (bit j k turned)
 
   -- the bits of a block by burst place, before turning
-  abbrev pub Interleaved : Format L → List Bool → List ℕ → Type 0
-  Interleaved f message = Filled f (λ j k turned. coded_bit f.code (run_of f message) j)
+  abbrev pub BlockByPlace : Format L → List Bool → List ℕ → Type 0
+  BlockByPlace f message = ByPlace f (λ j k turned. coded_bit f.code (run_of f message) j)
 
   -- burst n from the bits that the ring keeps
-  abbrev pub Spread : Format L → ℕ → List ℕ → List ℕ → Type 0
-  Spread f n ring = Filled f (λ j k turned. xor turned (carried f ring n k))
+  abbrev pub BurstFromRing : Format L → ℕ → List ℕ → List ℕ → Type 0
+  BurstFromRing f n ring = ByPlace f (λ j k turned. xor turned (carried f ring n k))
 
   -- a send is refused, and changes nothing
   pub record NotSent (x : Refusal Infallible) (s : Sender L) (m : SenderMemory) (reply : SendReply) (s' : Sender L) (m' : SenderMemory) : Type 0 where
@@ -61,11 +61,11 @@ module _ {L : Type 0} (l : line.Ghosts L) where
     pub counted : s'.counted ≡ s.counted + 1
     -- the block's bits lie in its bytes of the ring, and all others are left
     pub block : List ℕ
-    pub interleaved : Interleaved s.format (map odd message) block
+    pub interleaved : BlockByPlace s.format (map odd message) block
     pub ring : m'.ring ≡ stored s.format s.counted block m.ring
     -- the burst lies at the front of the burst memory, and what is past it is left
     pub burst : List ℕ
-    pub spread : Spread s.format s.counted m'.ring burst
+    pub spread : BurstFromRing s.format s.counted m'.ring burst
     pub put : m'.burst ≡ laid_at 0 burst m.burst
 
   -- by the first rule that is broken

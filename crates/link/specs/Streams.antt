@@ -11,14 +11,14 @@ use Rattle.link.specs.Due.{burst_of, laid_at}
 use Rattle.link.specs.Rules.{first, send_rules}
 use Rattle.link.specs.Sending.{SenderMemory, sender_sizes, SendReply, run_of, Sends}
 
--- a send that is not refused counts
-abbrev pub sent : SendReply → Bool
-sent (Ok n) = true
-sent (Err x) = false
+-- whether a send was not refused
+abbrev pub accepted : SendReply → Bool
+accepted (Ok n) = true
+accepted (Err x) = false
 
 -- what has been sent after one more send, where it was not refused
 abbrev pub sending : {X : Type 0} → SendReply → X → List X → List X
-sending reply x xs = cond (sent reply) (xs ++ (x ∷ [])) xs
+sending reply x xs = cond (accepted reply) (xs ++ (x ∷ [])) xs
 
 module _ {L : Type 0} (l : line.Ghosts L) where
   -- a history of the sender that was opened: the sender and the ring that its sends have left, and the messages and bursts of those that
@@ -38,6 +38,15 @@ module _ {L : Type 0} (l : line.Ghosts L) where
     -- and 0, turned where the line turns it, where there is no such block
     pub before : (j k : ℕ) (turned : Bool) → l.place f.line j ≡ Some (k, turned) → n < k % f.depth → slice_index_or burst k 0 ≡ bit_of turned
 
+  -- the bursts of a stream of messages
+  pub record StreamOf (f : Format L) (messages : List (List Bool)) (bursts : List (List ℕ)) : Type 0 where
+    -- each message is as long as the format has it
+    pub lengths : (b : ℕ) → b < length messages → length (slice_index_or messages b []) ≡ f.message
+    -- there are as many bursts as messages
+    pub as_many : length bursts ≡ length messages
+    -- and each is the burst of its number
+    pub each : (n : ℕ) → n < length messages → BurstOf f messages n (slice_index_or bursts n [])
+
   -- what is claimed of one send, from the rules that it is held against
   pub record StreamSound (f : Format L) (rules : Option (Refusal Infallible)) (message : List ℕ) (messages : List (List Bool))
       (s : Sender L) (m : SenderMemory) (reply : SendReply) (s' : Sender L) (m' : SenderMemory) : Type 0 where
@@ -52,12 +61,9 @@ module _ {L : Type 0} (l : line.Ghosts L) where
     pub sends : (s s' : Sender L) (messages : List (List Bool)) (bursts : List (List ℕ)) (message : List ℕ) (m m' : SenderMemory) (reply : SendReply) →
         Stream opened s m.ring messages bursts → Sends l message s m reply s' m' →
         StreamSound opened.format (first (send_rules opened.format (sender_sizes m) (length messages) message)) message messages s m reply s' m'
-    -- each message sent is as long as the format has it
-    pub lengths : (s : Sender L) (ring : List ℕ) (messages : List (List Bool)) (bursts : List (List ℕ)) (b : ℕ) →
-        Stream opened s ring messages bursts → b < length messages → length (slice_index_or messages b []) ≡ opened.format.message
-    -- as many bursts as messages have been sent
-    pub each : (s : Sender L) (ring : List ℕ) (messages : List (List Bool)) (bursts : List (List ℕ)) →
-        Stream opened s ring messages bursts → length bursts ≡ length messages
-    -- and each is the burst of its number
-    pub bursts : (s : Sender L) (ring : List ℕ) (messages : List (List Bool)) (bursts : List (List ℕ)) (n : ℕ) →
-        Stream opened s ring messages bursts → n < length messages → BurstOf opened.format messages n (slice_index_or bursts n [])
+    -- the bursts are those of the messages
+    pub puts : (s : Sender L) (ring : List ℕ) (messages : List (List Bool)) (bursts : List (List ℕ)) →
+        Stream opened s ring messages bursts → StreamOf opened.format messages bursts
+    -- and no others are
+    pub only : (s : Sender L) (ring : List ℕ) (messages : List (List Bool)) (bursts : List (List ℕ)) (n : ℕ) (burst : List ℕ) →
+        Stream opened s ring messages bursts → n < length messages → BurstOf opened.format messages n burst → burst ≡ slice_index_or bursts n []

@@ -1,6 +1,7 @@
 // Both ends of a link: the block format, the receiver and the sender with their calls.
 #![tactic(auto)]
 
+mod checks;
 mod due;
 pub mod format;
 pub mod memory;

@@ -1,4 +1,4 @@
-// The memory lent at each hear and miss.
+// The memory lent at each hear and miss, and how much is lent at each end.
 ghost use Rattle.std.specs.Prelude.{◌≡◌};
 ghost use Rattle.link.specs.Calls.{lent, sizes};
 

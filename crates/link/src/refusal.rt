@@ -1,7 +1,6 @@
 // Why a call was refused. Each refusal tells its number, whom it concerns, and a detail.
 ghost use Rattle.std.specs.Prelude.{◌≡◌};
 ghost use Rattle.link.specs.Refusals.{told};
-ghost use Rattle.link.specs.Rules.{enough, passed, room, unless};
 
 #[derive(Clone, Copy, Debug, PartialEq, Eq)]
 pub enum Group {
@@ -83,26 +82,4 @@ impl<B: Copy> Refusal<B> {
             _ => 0,
         }
     }
-}
-
-// Passes where a rule holds, and is refused where it is broken.
-pub(crate) fn unless<B: Copy>(holds: bool, refusal: Refusal<B>) -> Result<(), Refusal<B>>
-    ensures { result ≡ passed (unless holds refusal) }
-{
-    if holds { Ok(()) } else { Err(refusal) }
-}
-
-// What both ends check of a memory that is lent, and of their count.
-pub(crate) fn check_size<B: Copy>(size: usize, lent: usize) -> Result<(), Refusal<B>>
-    ensures { result ≡ passed (enough size lent) }
-{
-    unless(size <= lent, Refusal::ShortMemory { needed: size })
-}
-
-const MOST_BURSTS: usize = 1_000_000;
-
-pub(crate) fn check_count<B: Copy>(counted: usize) -> Result<(), Refusal<B>>
-    ensures { result ≡ passed (room counted) }
-{
-    unless(counted < MOST_BURSTS, Refusal::CountFull)
 }

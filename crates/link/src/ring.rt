@@ -19,7 +19,7 @@ impl<L> Format<L> {
     }
 
     // Where the cells of burst n begin.
-    pub(crate) fn row(&self, n: usize) -> usize
+    pub(crate) fn ring_start(&self, n: usize) -> usize
         ensures { result ≡ cell self.now n 0 }
     {
         n % self.depth * self.burst
@@ -42,7 +42,7 @@ impl<'a, 'f, S: Copy, L> Ring<'a, 'f, S, L> {
         ensures cells { self.new.cells.now ≡ stored self.old.format.now n samples.now self.old.cells.now }
         ensures same { self.new.cells.ghost_name ≡ self.old.cells.ghost_name }
     {
-        let at = self.format.row(n);
+        let at = self.format.ring_start(n);
         self.cells[at..at + samples.len()].copy_from_slice(samples);
     }
 
@@ -52,7 +52,7 @@ impl<'a, 'f, S: Copy, L> Ring<'a, 'f, S, L> {
         ensures cells { self.new.cells.now ≡ stored self.old.format.now n (replicate self.old.format.now.burst sample) self.old.cells.now }
         ensures same { self.new.cells.ghost_name ≡ self.old.cells.ghost_name }
     {
-        let at = self.format.row(n);
+        let at = self.format.ring_start(n);
         let burst = self.format.burst;
         let part = &mut self.cells[at..at + burst];
         for cell in part.iter_mut() {

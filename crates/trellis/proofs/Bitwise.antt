@@ -1,5 +1,5 @@
 -- Bits as numbers, and odd numbers.
-use Rattle.std.proofs.Common.{◌≡◌, ℕ, suc, ◌+◌, ◌*◌, ◌/◌, ◌%◌, ◌^◌, ◌<◌, min, Bool, true, false, not, ◌&&◌, eqb, sym, refl, ap, ◌∙◌, subst, ap₂, inl, inr, arith}
+use Rattle.std.proofs.Common.{◌≡◌, ℕ, suc, ◌+◌, ◌*◌, ◌/◌, ◌%◌, ◌^◌, ◌<◌, min, Bool, true, false, not, ◌&&◌, eqb, List, [], ◌∷◌, map, sym, refl, ap, ◌∙◌, subst, ap₂, inl, inr, arith}
 use lib.Bits.{bit_xor, xor_mod}
 use lib.Count.{ones}
 use mir.Val.{bool_byte}
@@ -64,6 +64,11 @@ bit_is false = refl
 pub odd_bit : (b : Bool) → odd (bit_of b) ≡ b
 odd_bit true = refl
 odd_bit false = refl
+
+-- and so are the bits of a list
+pub odd_bits : (bs : List Bool) → map odd (map bit_of bs) ≡ bs
+odd_bits [] = refl
+odd_bits (b ∷ bs) = ap₂ (λ (x : Bool) (xs : List Bool). x ∷ xs) (odd_bit b) (odd_bits bs)
 
 -- a bit below a number's bits is its lowest
 pub odd_below : (v : ℕ) (b : Bool) → odd (v * 2 + bit_of b) ≡ b

@@ -8,7 +8,7 @@ use Rattle.cost.specs.declared.kind.Cost.{Ghosts}
 use Rattle.cost.specs.Samples.{clean}
 use Rattle.cost.proofs.Lawful.{Laws, le_refl}
 use Rattle.trellis.specs.Bits.{xor}
-use Rattle.trellis.specs.Clean.{SendsAs, CleanOf, CleanAnswer}
+use Rattle.trellis.proofs.Clean.{SendsAs, CleanOf, CleanAnswer}
 use Rattle.trellis.specs.Codes.{summed, rows_of, sound}
 use Rattle.trellis.specs.Coding.{coded_bit}
 use Rattle.trellis.specs.Paths.{grown_by, grown_rows, cost_of}
@@ -108,7 +108,7 @@ module _ {C S P : Type 0} {k : Ghosts C S P} (laws : Laws k) where
         ap (coded_bit code (reverse (b ∷ p))) place ∙ coded_newest code b p i (omega arith)
 
     -- a path that sends as was sent costs nothing
-    pub clean_costs_nothing : (p : List Bool) → SendsAs met sent (coded_bit code (reverse p)) (code.rows * length p) → cost p ≡ k.ZERO
+    clean_costs_nothing : (p : List Bool) → SendsAs met sent (coded_bit code (reverse p)) (code.rows * length p) → cost p ≡ k.ZERO
     unfolding cost_of
     clean_costs_nothing [] same = refl
     clean_costs_nothing (b ∷ p) same =
@@ -119,7 +119,7 @@ module _ {C S P : Type 0} {k : Ghosts C S P} (laws : Laws k) where
         ∙ grown_rows_agrees (b ∷ p) (length rows * length p) rows (λ i n h e some. sym (newest_row b p i n h e) ∙ same n (omega arith) some) k.ZERO
 
     -- and only such a path does
-    pub costless_sends_same : (p : List Bool) → k.le (cost p) k.ZERO ≡ true → SendsAs met sent (coded_bit code (reverse p)) (code.rows * length p)
+    costless_sends_same : (p : List Bool) → k.le (cost p) k.ZERO ≡ true → SendsAs met sent (coded_bit code (reverse p)) (code.rows * length p)
     unfolding cost_of
     costless_sends_same [] h j below some = absurd (omega arith)
     costless_sends_same (b ∷ p) h j below some =

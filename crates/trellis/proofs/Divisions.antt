@@ -51,7 +51,7 @@ times_remainder (b ∷ q) = remainder_plus (cond b generator []) (false ∷ time
     generator_remainder false = refl
 
 -- so multiples leave none
-pub multiple_remainder : (p : List Bool) → Multiple generator p → remainder p ≡ 0
+multiple_remainder : (p : List Bool) → Multiple generator p → remainder p ≡ 0
 multiple_remainder p (quotient, same) = same_remainder p (times quotient generator) same ∙ times_remainder quotient
 
 -- 0 has no bit
@@ -103,7 +103,7 @@ divided (b ∷ p) = more (divided p)
     )
 
 -- where a path leaves no remainder it is a multiple
-pub multiple : (p : List Bool) → remainder p ≡ 0 → Multiple generator p
+multiple : (p : List Bool) → remainder p ≡ 0 → Multiple generator p
 multiple p none =
     let (q, same) = divided p in (
       q,

@@ -1,5 +1,6 @@
 pub mod Answering
 pub mod Bitwise
+pub mod Clean
 pub mod Cleans
 pub mod Coded
 pub mod Divisions

@@ -97,7 +97,7 @@ remainder_plus (a ∷ p) (b ∷ q) =
     ∙ reduced_sum (u * 2 + bit_of a) (v * 2 + bit_of b) (omega (arith, remainder_below p, bit_below a)) (omega (arith, remainder_below q, bit_below b))
 
 -- the remainder of so few bits is the number that they write
-pub remainder_bits : (n v : ℕ) → n ≤ 16 → v < 2 ^ n → remainder (bits n v) ≡ v
+remainder_bits : (n v : ℕ) → n ≤ 16 → v < 2 ^ n → remainder (bits n v) ≡ v
 unfolding remainder
 remainder_bits zero v few h = omega arith
 remainder_bits (suc n) v few h =

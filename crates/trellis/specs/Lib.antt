@@ -1,6 +1,5 @@
 pub mod Bits
 pub mod Cells
-pub mod Clean
 pub mod Codes
 pub mod Coding
 pub mod Decoding

@@ -4,11 +4,14 @@ ghost use Rattle.link.specs.Opening.{Agrees};
 ghost use Rattle.link.specs.Rules.{lengths_suit, line_suits};
 
 use super::Format;
+use crate::checks::unless;
 use crate::proposal::Proposal;
-use crate::refusal::{Refusal, unless};
+use crate::refusal::Refusal;
 use line::laying::Line;
 
-const MOST_MESSAGE: usize = 512;
+pub(crate) const MOST_MESSAGE: usize = 512;
+
+pub(crate) const MOST_PARITY: usize = 16;
 
 const MOST_CODED: usize = 2048;
 
@@ -17,7 +20,9 @@ const MOST_BURST: usize = 1024;
 fn lengths_suit(message: usize, parity: usize, depth: usize) -> bool
     ensures { result ≡ lengths_suit message parity depth }
 {
-    (1..=MOST_MESSAGE).contains(&message) && matches!(parity, 0 | 16) && matches!(depth, 1 | 3)
+    (1..=MOST_MESSAGE).contains(&message)
+        && matches!(parity, 0 | MOST_PARITY)
+        && matches!(depth, 1 | 3)
 }
 
 fn line_suits<L: Line>(line: &L, coded: usize) -> bool

@@ -3,10 +3,11 @@ ghost use Rattle.link.specs.Calls.{Hears, Misses, Steals, Restarts, SameLoans, l
 ghost use Rattle.link.specs.Opening.{Opens};
 
 use super::Receiver;
+use crate::checks::unless;
 use crate::format::Format;
 use crate::memory::Memory;
 use crate::proposal::Proposal;
-use crate::refusal::{Refusal, unless};
+use crate::refusal::Refusal;
 use crate::report::{Answer, Report};
 use crate::ring::{store, store_same};
 use cost::kind::Cost;

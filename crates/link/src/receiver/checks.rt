@@ -3,9 +3,10 @@ ghost use Rattle.std.specs.Prelude.{◌≡◌, ◌*◌, ◌^◌};
 ghost use Rattle.link.specs.Rules.{all_fit, first, hear_rules, memory_rules, miss_rules, needed, passed, steps};
 
 use super::Receiver;
+use crate::checks::{check_count, check_size, unless};
 use crate::format::Format;
 use crate::memory::Sizes;
-use crate::refusal::{Refusal, check_count, check_size, unless};
+use crate::refusal::Refusal;
 use crate::report::Report;
 use cost::kind::Cost;
 use line::laying::Line;

@@ -1,11 +1,12 @@
 // The checks of a send, in the order of the refusals' numbers.
-ghost use Rattle.std.specs.Prelude.{◌≡◌, length};
+ghost use Rattle.std.specs.Prelude.{◌≡◌};
 ghost use Rattle.link.specs.declared.refusal.Refusal.TheVariants.{BadBit};
 ghost use Rattle.link.specs.Rules.{all_such, first, is_bit, passed, send_rules, sender_needs};
 
 use super::Sender;
+use crate::checks::{check_count, check_size, unless};
 use crate::memory::SenderSizes;
-use crate::refusal::{Refusal, check_count, check_size, unless};
+use crate::refusal::Refusal;
 use line::laying::Line;
 use std::convert::Infallible;
 

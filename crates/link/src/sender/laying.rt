@@ -4,18 +4,18 @@ ghost use Rattle.trellis.specs.Bits.{bit_of, bits, odd, xor};
 ghost use Rattle.trellis.specs.Coding.{coded_bit};
 ghost use Rattle.trellis.specs.Parity.{with_parity};
 ghost use Rattle.link.specs.Due.{laid_at, stored};
-ghost use Rattle.link.specs.Sending.{Filled, Interleaved, Spread, carried};
+ghost use Rattle.link.specs.Sending.{ByPlace, BlockByPlace, BurstFromRing, carried};
 
 use crate::format::Format;
+use crate::format::agree::{MOST_MESSAGE, MOST_PARITY};
 use line::laying::Line;
 use trellis::code::Code;
 use trellis::parity::remainder_of;
 
-// The longest message with its parity.
-const MOST_RUN: usize = 528;
+const MOST_RUN: usize = MOST_MESSAGE + MOST_PARITY;
 
 // The bit of each coded place, at the burst place k where it goes and as it is turned over there or not.
-trait Bits {
+trait PlacedBits {
     ghost bit: { Self → ℕ → ℕ → Bool → Bool };
 
     fn bit(&self, j: usize, k: usize, turned: bool) -> bool
@@ -29,7 +29,7 @@ struct Coded<'c, 'r> {
     run: &'r [u8],
 }
 
-impl<'c, 'r> Bits for Coded<'c, 'r> {
+impl<'c, 'r> PlacedBits for Coded<'c, 'r> {
     ghost bit = { λ b j k turned. coded_bit b.code.now (map odd b.run.now) j };
 
     fn bit(&self, j: usize, _: usize, _: bool) -> bool {
@@ -54,12 +54,13 @@ impl<'r, 'f, L> Carried<'r, 'f, L> {
         if back > self.number {
             return false;
         }
-        let at = self.format.row(self.number - back).saturating_add(k);
+        // Past every ring where it would not fit.
+        let at = self.format.ring_start(self.number - back).saturating_add(k);
         self.ring.get(at).is_some_and(|byte| *byte > 0)
     }
 }
 
-impl<'r, 'f, L> Bits for Carried<'r, 'f, L> {
+impl<'r, 'f, L> PlacedBits for Carried<'r, 'f, L> {
     ghost bit = { λ b j k turned. xor turned (carried b.format.now b.ring.now b.number k) };
 
     fn bit(&self, _: usize, k: usize, turned: bool) -> bool {
@@ -74,7 +75,7 @@ fn write_bits(number: u32, row: &mut [u8])
 {
     let highest = row.len();
     for (place, bit) in row.iter_mut().enumerate() {
-        *bit = (number >> (highest - 1 - place) & 1) as u8;
+        *bit = ((number >> (highest - 1 - place)) & 1) as u8;
     }
 }
 
@@ -91,10 +92,11 @@ fn write_run(message: &[u8], width: usize, run: &mut [u8])
 }
 
 impl<L: Line> Format<L> {
-    // Puts each bit that is sent at its burst place. Of a format that was agreed on, no place is left over.
-    fn fill<B: Bits>(&self, bits: &B, row: &mut [u8])
+    // Puts each bit that is sent at its burst place. Of a format that was agreed on no place is left over, and none answered lies past the
+    // burst; a format does not carry the proof of it, so it is tested.
+    fn fill<B: PlacedBits>(&self, bits: &B, row: &mut [u8])
         requires { length row.old ≡ self.now.burst }
-        ensures { Filled L.Line self.now (B.Bits.bit bits.now) row.new }
+        ensures { ByPlace L.Line self.now (B.PlacedBits.bit bits.now) row.new }
     {
         for j in 0..self.line.coded_bits() {
             let Some((k, turned)) = self.line.place_of(j) else {
@@ -110,7 +112,7 @@ impl<L: Line> Format<L> {
     pub(super) fn keep(&self, number: usize, message: &[u8], ring: &mut [u8])
         requires message { length message.now ≡ self.now.message }
         requires room { self.now.depth * self.now.burst ≤ length ring.old }
-        ensures { (block : List ℕ) × Interleaved L.Line self.now (map odd message.now) block × (ring.new ≡ stored self.now number block ring.old) }
+        ensures { (block : List ℕ) × BlockByPlace L.Line self.now (map odd message.now) block × (ring.new ≡ stored self.now number block ring.old) }
     {
         let mut bits = [0; MOST_RUN];
         let run = &mut bits[..self.message + self.parity];
@@ -119,14 +121,14 @@ impl<L: Line> Format<L> {
             code: &self.code,
             run,
         };
-        let at = self.row(number);
+        let at = self.ring_start(number);
         self.fill(&coded, &mut ring[at..at + self.burst]);
     }
 
     // Puts burst `number` at the front of the burst memory.
     pub(super) fn put(&self, number: usize, ring: &[u8], burst: &mut [u8])
         requires { self.now.burst ≤ length burst.old }
-        ensures { (row : List ℕ) × Spread L.Line self.now number ring.now row × (burst.new ≡ laid_at 0 row burst.old) }
+        ensures { (row : List ℕ) × BurstFromRing L.Line self.now number ring.now row × (burst.new ≡ laid_at 0 row burst.old) }
     {
         let carried = Carried {
             ring,

@@ -19,5 +19,5 @@ returns g c = (
     whole = c.fill.ensures.whole;
     bits = λ j k turned e h. c.fill.ensures.bits j k turned e h ∙ ap (λ run. bit_of (coded_bit c.args.self.now.code run j)) c.write_run.ensures;
   },
-  part_laid c.row-at.result _ c.args.self.now.burst c.fill.new.row c.args.ring.now c.row-at.ensures c.fill.ensures.whole,
+  part_laid c.ring_start-at.result _ c.args.self.now.burst c.fill.new.row c.args.ring.now c.ring_start-at.ensures c.fill.ensures.whole,
 )

@@ -1,5 +1,5 @@
 -- What it is that a run is heard clean, and what the trellis rule then answers.
-use Rattle.std.specs.Prelude.{◌≡◌, ◌≢◌, ℕ, ◌*◌, ◌<◌, Bool, false, List, [], ◌++◌, reverse, replicate}
+use Rattle.std.proofs.Common.{◌≡◌, ◌≢◌, ℕ, ◌*◌, ◌<◌, Bool, false, List, [], ◌++◌, reverse, replicate}
 use Rattle.std.specs.List.{AllByRecursion}
 use Rattle.cost.specs.declared.kind.Cost.{Ghosts}
 use Rattle.cost.specs.Samples.{clean}
