@@ -20,7 +20,7 @@ use Rattle.channels.specs.LayingsLemmas.{filled, within as placed_within}
 use Rattle.channels.specs.Standard.{◌⊕◌, Description, Filled, Protected, Block, StandardBurst, coded, read_out, sent_bits, standard, taken}
 use Rattle.channels.specs.declared.channel.Channel.{Channel}
 use Rattle.channels.specs.declared.laying.Laying.{Laying}
-use Rattle.channels.proofs.StandardChannels.{Agrees, agrees}
+use Rattle.channels.proofs.StandardChannels.{Described, described}
 use Rattle.channels.proofs.StandardCoder.{coded_bits, length_coded}
 use Rattle.channels.proofs.StandardMatrix.{Reads, matrix_of, matrix_filled, matrix_reads, scrambler_reads}
 
@@ -50,7 +50,7 @@ taken_due depth block n k b due =
 taken_none : (depth : ℕ) (block : ℕ → ℕ → Bool) (n k : ℕ) → n < k % depth → taken depth block n k ≡ false
 taken_none depth block n k early = and_left _ _ (lt-leb (k % depth) n early)
 
-module _ (d : Description) (t : Terms) (a : Agrees d t) (u : List Bool) (long : length u ≡ t.message + t.parity) where
+module _ (d : Description) (t : Terms) (a : Described d t) (u : List Bool) (long : length u ≡ t.message + t.parity) where
   -- the coded bits of what enters the coder
   abbrev bits : List Bool
   bits = coded d.equations u (length u + d.tail)
@@ -89,8 +89,8 @@ module _ (channel : Channel) (line : Laying) (f : Format Laying)
   abbrev t : Terms
   t = terms channel
 
-  a : Agrees d t
-  a = agrees channel
+  a : Described d t
+  a = described channel
 
   -- a burst has as many places as the matrix
   length_burst : f.burst ≡ 8 * d.rows

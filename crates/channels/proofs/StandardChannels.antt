@@ -1,10 +1,9 @@
--- What the channels set agrees with what the standard sets for them.
-use Rattle.std.proofs.Common.{◌≡◌, ℕ, ◌+◌, ◌*◌, ◌<◌, Bool, true, false, cond, List, length, get_or, Some, None, Option, sym, refl, ap, subst, ◌∙◌}
-use Rattle.std.proofs.lemmas.Bool.{cond-true}
+-- What the channels set is what the standard describes.
+use Rattle.std.proofs.Common.{◌≡◌, ℕ, ◌+◌, ◌*◌, ◌<◌, Bool, false, cond, List, length, get_or, Some, None, Option, sym, refl, ap, subst, ◌∙◌}
 use Rattle.line.specs.Interleaver.{interleaved}
 use Rattle.line.specs.Scrambler.{scrambled}
 use Rattle.line.specs.Unpunctured.{in_order}
-use Rattle.puncture.specs.Masks.{Masks, coded_of, pattern, sound}
+use Rattle.puncture.specs.Masks.{Masks, coded_of, pattern}
 use Rattle.puncture.specs.Patterns.{kept, numbered}
 use Rattle.puncture.proofs.Making.{length_pattern}
 use Rattle.trellis.specs.Codes.{rows_of}
@@ -26,22 +25,19 @@ pub record Laid (masks : Option Masks) (coded places : ℕ) (line : ℕ → Opti
 whole_laid : (n : ℕ) → Laid None n n (in_order n)
 whole_laid n = record { fills = λ bits e. e; stands = λ bits j bit e same. whole_stands bits n j bit e same }
 
--- by masks without a fault, as their pattern numbers them
-masks_laid : (m : Masks) (n : ℕ) → sound m ≡ true → kept (pattern m) ≡ n → Laid (Some m) (coded_of m) n (numbered (pattern m))
-masks_laid m n ok many = record {
+-- by masks, as their pattern numbers them, which has the entries one after another
+masks_laid : (m : Masks) (n : ℕ) → pattern m ≡ entries m → kept (pattern m) ≡ n → Laid (Some m) (coded_of m) n (numbered (pattern m))
+masks_laid m n read many = record {
   fills = λ bits e. length_walk (entries m) bits (e ∙ sym long) ∙ ap kept (sym read) ∙ many;
   stands = λ bits j bit e same.
       subst (λ p. Stands (punctured (Some m) bits) bit (numbered p j)) (sym read) (walk_stands (entries m) bits j bit (e ∙ sym long) same);
 }
   where
-    read : pattern m ≡ entries m
-    read = cond-true (sound m) _ _ ok
-
     long : length (entries m) ≡ coded_of m
     long = ap length (sym read) ∙ length_pattern m
 
--- what a channel sets agrees with a description
-pub record Agrees (d : Description) (t : Terms) : Type 0 where
+-- what a channel sets is as a description has it
+pub record Described (d : Description) (t : Terms) : Type 0 where
   pub message : d.message ≡ t.message
   pub parity : cond d.parity 16 0 ≡ t.parity
   pub told : Tells t.code d.equations
@@ -55,8 +51,53 @@ pub record Agrees (d : Description) (t : Terms) : Type 0 where
   pub burst : t.burst ≡ 8 * d.rows
   pub depth : t.depth ≡ d.depth
 
-pub agrees : (channel : Channel) → Agrees (standard channel) (terms channel)
-agrees Bench = record { message = refl; parity = refl; told = bench_tells; rows = refl; coded = refl; below = _; laid = whole_laid 16; places = λ j. refl; burst = refl; depth = refl }
-agrees Bcch = record { message = refl; parity = refl; told = half_tells; rows = refl; coded = refl; below = _; laid = whole_laid 424; places = λ j. refl; burst = refl; depth = refl }
-agrees Data24 = record { message = refl; parity = refl; told = fifth_tells; rows = refl; coded = refl; below = _; laid = masks_laid data24_masks 648 refl refl; places = λ j. refl; burst = refl; depth = refl }
-agrees Data96 = record { message = refl; parity = refl; told = half_tells; rows = refl; coded = refl; below = _; laid = masks_laid data96_masks 648 refl refl; places = λ j. refl; burst = refl; depth = refl }
+-- of each channel
+pub described : (channel : Channel) → Described (standard channel) (terms channel)
+described Bench = record {
+  message = refl;
+  parity = refl;
+  told = bench_tells;
+  rows = refl;
+  coded = refl;
+  below = _;
+  laid = whole_laid 16;
+  places = λ j. refl;
+  burst = refl;
+  depth = refl;
+}
+described Bcch = record {
+  message = refl;
+  parity = refl;
+  told = half_tells;
+  rows = refl;
+  coded = refl;
+  below = _;
+  laid = whole_laid 424;
+  places = λ j. refl;
+  burst = refl;
+  depth = refl;
+}
+described Data24 = record {
+  message = refl;
+  parity = refl;
+  told = fifth_tells;
+  rows = refl;
+  coded = refl;
+  below = _;
+  laid = masks_laid data24_masks 648 refl refl;
+  places = λ j. refl;
+  burst = refl;
+  depth = refl;
+}
+described Data96 = record {
+  message = refl;
+  parity = refl;
+  told = half_tells;
+  rows = refl;
+  coded = refl;
+  below = _;
+  laid = masks_laid data96_masks 648 refl refl;
+  places = λ j. refl;
+  burst = refl;
+  depth = refl;
+}

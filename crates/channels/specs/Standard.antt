@@ -1,9 +1,9 @@
 -- What each burst of a channel holds, told as the standard of the channels tells it: what enters the coder, the linear equations of the coded
 -- bits, the masks, the matrix, the bursts that carry a block, and the scrambler.
-use Rattle.std.specs.Prelude.{◌≡◌, ℕ, zero, suc, ◌+◌, ◌-◌, ◌*◌, ◌/◌, ◌%◌, ◌<◌, Bool, true, false, cond, ◌&&◌, List, [], ◌∷◌, ◌++◌, reverse, length, Some, None, Option, nat_le, slice_index_or}
+use Rattle.std.specs.Prelude.{◌≡◌, ℕ, zero, suc, ◌+◌, ◌-◌, ◌*◌, ◌/◌, ◌%◌, ◌<◌, Bool, true, false, cond, ◌&&◌, List, [], ◌∷◌, ◌++◌, map, reverse, length, Some, None, Option, ◌==◌, nat_le, nat_lt, slice_index_or}
+use Rattle.std.specs.List.{range_with_len}
 use Rattle.line.specs.Scrambler.{masking}
-use Rattle.puncture.specs.Masks.{Masks, covered, end_flat, flat}
-use Rattle.puncture.specs.Patterns.{laid_out}
+use Rattle.puncture.specs.Masks.{Masks, Table, width}
 use Rattle.trellis.specs.Bits.{xor, bit_of}
 use Rattle.trellis.specs.Polynomials.{Multiple, generator}
 use Rattle.channels.specs.Tables.{data24_masks, data96_masks}
@@ -53,10 +53,35 @@ abbrev pub coded : Equations → List Bool → ℕ → List Bool
 coded equations u zero = []
 coded equations u (suc k) = coded equations u k ++ equations (delayed u k)
 
--- the entries of masks, column by column: the prefix once, the middles, the columns left over, kept whole, and the suffix
-abbrev pub entries : Masks → List Bool
-entries m =
-    laid_out (end_flat m.prefix) m.times (flat m.middle) (length m.middle * (m.steps - covered m)) (end_flat m.suffix)
+-- the table before or after the middles; without columns where there is none
+abbrev pub end_table : Option Table → Table
+end_table None = []
+end_table (Some t) = t
+
+-- whether a table has a one at row i of column c
+abbrev pub one_at : Table → ℕ → ℕ → Bool
+one_at t i c = slice_index_or (slice_index_or t i []) c 0 == 1
+
+module _ (m : Masks) where
+  -- the prefix stands over the first steps
+  abbrev pub first_steps : ℕ
+  first_steps = width (end_table m.prefix)
+
+  -- the suffix stands over the last ones, from this step on
+  abbrev pub last_steps : ℕ
+  last_steps = m.steps - width (end_table m.suffix)
+
+  -- the entry for row i of step t: after the prefix the middle stands over and over, its number of times, and what lies between is kept whole
+  abbrev pub entry : ℕ → ℕ → Bool
+  entry i t =
+      cond (nat_lt t first_steps) (one_at (end_table m.prefix) i t)
+      (cond (nat_le last_steps t) (one_at (end_table m.suffix) i (t - last_steps))
+      (cond (nat_lt (t - first_steps) (m.times * width m.middle)) (one_at m.middle i ((t - first_steps) % width m.middle))
+      true))
+
+  -- the entries in the order of the coded bits, of which number rows * t + i is that of row i at step t
+  abbrev pub entries : List Bool
+  entries = map (λ j. entry (j % length m.middle) (j / length m.middle)) (range_with_len 0 (length m.middle * m.steps))
 
 -- coded bits held against entries, one after another: a bit is sent where the entry is one
 abbrev pub walk : List Bool → List Bool → List Bool

@@ -35,6 +35,7 @@ use Rattle.link.specs.Rules.{first, open_rules, between, steps_of, steps}
 use Rattle.link.specs.Sending.{run_of}
 use Rattle.link.specs.Streams.{BurstOf}
 use Rattle.link.proofs.FirstRule.{first_none, unless_none}
+use Rattle.link.proofs.Streaming.{within}
 
 -- what both ends agree on, beside the format: what opening has checked of it
 pub record Agreed {L : Type 0} (l : line.Ghosts L) (f : Format L) : Type 0 where
@@ -51,10 +52,6 @@ count_all test from (suc n) all =
     ∙ ap₂ (λ (t : Bool) (m : ℕ). cond t 1 0 + m) (all from (omega arith)) (count_all test (from + 1) n (λ i h. all i (omega arith))) ∙ omega arith
 
 module _ {C S P L : Type 0} {k : cost.Ghosts C S P} (laws : Laws k) {l : line.Ghosts L} (line_laws : lines.Laws l) (f : Format L) (agreed : Agreed l f) where
-  -- a burst place that is answered is one of the burst's
-  within : (j p : ℕ) (turned : Bool) → l.place f.line j ≡ Some (p, turned) → p < f.burst
-  within j p turned e = let h = line_laws.within f.line j p turned e in omega (arith, agreed.lays)
-
   module _ (bursts : List (List S)) (b : ℕ) (sent : List (List ℕ)) (c : ℕ) (messages : List (List Bool))
       (right_bursts : (n : ℕ) → n < length sent → BurstOf l f messages n (get_or sent n [])) (heard : HeardClean k l f bursts b sent c) where
     -- the samples due to the block
@@ -68,7 +65,7 @@ module _ {C S P L : Type 0} {k : cost.Ghosts C S P} (laws : Laws k) {l : line.Gh
     -- the sample due where a coded bit is sent is the clean one of that bit, turned where it is turned
     due_clean : (j p : ℕ) (turned : Bool) → l.place f.line j ≡ Some (p, turned) → due p ≡ clean k (xor (coded_bit f.code run j) turned)
     due_clean j p turned e =
-        let inside = within j p turned e in
+        let inside = within line_laws f agreed.lays j p turned e in
         let low : p % f.depth < f.depth = mod-lt p (omega (arith, f.least_depth)) in
         let n = burst_of f c p in
         let carried = (right_bursts n (omega (arith, heard.ended))).carries j p c turned e refl in

@@ -26,7 +26,7 @@ read_bit false = refl
 
 module _ {L : Type 0} {l : line.Ghosts L} (laws : Laws l) (f : Format L) (lays : f.burst ≡ l.sent f.line) where
   -- a burst place that is answered is one of the burst's
-  within : (j k : ℕ) (turned : Bool) → l.place f.line j ≡ Some (k, turned) → k < f.burst
+  pub within : (j k : ℕ) (turned : Bool) → l.place f.line j ≡ Some (k, turned) → k < f.burst
   within j k turned e = let h = laws.within f.line j k turned e in omega (arith, lays)
 
   -- coded bit j of block b

@@ -1,5 +1,5 @@
 -- Writing the lowest bits of a number, the highest first.
-use Rattle.std.proofs.Common.{◌≡◌, ℕ, zero, suc, ◌+◌, ◌-◌, ◌/◌, ◌^◌, ◌<◌, Bool, false, List, [], ◌∷◌, ◌++◌, length, get_or, map, reverse, set, take, drop, replicate, ap₂, refl, add-one, length-append, ◌≢◌, sym, ap, ◌∙◌, arith, below_more}
+use Rattle.std.proofs.Common.{◌≡◌, ℕ, zero, suc, ◌+◌, ◌-◌, ◌/◌, ◌^◌, ◌<◌, false, List, [], ◌∷◌, ◌++◌, length, get_or, map, reverse, set, take, drop, replicate, ap₂, refl, add-one, length-append, ◌≢◌, sym, ap, ◌∙◌, arith, below_more}
 use lib.Bits.{bit_and, and_mask}
 use Rattle.std.proofs.lemmas.List.{get_or-set_other, get_or-set_same, get_or-reverse, get_or-map, ext_get_or, length-map, map-append, reverse-append, append-nil, drop-replicate, drop_all, length-take-le, length-reverse}
 use Rattle.std.proofs.Math.Seq.{take-append_seam, drop-append_seam}

@@ -1,6 +1,6 @@
 use Rattle.std.proofs.Common.{◌≡◌, length, rules, refl}
 use Rattle.cost.proofs.Lawful.{laws_of}
-use Rattle.line.specs.Lawful as lines
+use Rattle.line.proofs.Bounds.{laws_met}
 use Rattle.link.proofs.Clean.{agreed_on, all_as_sent}
 use Rattle.link.proofs.Soundness.{all_sound}
 use Rattle.link.proofs.receiver.Receiver.open.Goals as goal
@@ -11,12 +11,11 @@ returns g c =
     let a = c.args.proposal in
     let five : length a.code.taps ≡ 5 = search rules in
     let laws = laws_of g.met.C.Cost in
-    let line_laws : lines.Laws g.L.Line = record { within = g.met.L.Line.within; apart = g.met.L.Line.apart; filled = g.met.L.Line.filled; ended = g.met.L.Line.ended } in
     let sound = all_sound laws g.L.Line _ refl in
     record {
       rules = agreed.0;
       format = agreed.1;
       counted = refl;
       histories = sound;
-      both_ends = all_as_sent laws line_laws _ (agreed_on g.L.Line a _ five agreed.0 agreed.1) sound;
+      both_ends = all_as_sent laws (laws_met g.met.L.Line) _ (agreed_on g.L.Line a _ five agreed.0 agreed.1) sound;
     }
