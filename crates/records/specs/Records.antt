@@ -1,5 +1,5 @@
 -- The records of a recording, and the bytes that spell them.
-use Rattle.std.specs.Prelude.{◌≡◌, ℕ, ◌/◌, ◌%◌, ◌<◌, ◌≤◌, List, [], ◌∷◌, ◌++◌, length, take, Some, None, Ok, Err, Option, Result, ◌≢◌}
+use Rattle.std.specs.Prelude.{◌≡◌, ℕ, ◌/◌, ◌%◌, ◌<◌, ◌≤◌, List, [], ◌∷◌, ◌++◌, length, take, Some, None, Ok, Err, Option, Result, ◌≢◌, codes}
 use Rattle.channels.specs.Bytes.{channel_byte}
 use Rattle.channels.specs.declared.channel.Channel.{Channel}
 use Rattle.records.specs.declared.record.Kind.{Kind}
@@ -56,6 +56,11 @@ abbrev pub Reads : List ℕ → Option (Record × ℕ) → Type 0
 Reads bytes (Some (found, taken)) =
     Begins bytes (said found) × (taken ≡ length (spelling (said found))) × ((s : Said) → Begins bytes s → s ≡ said found)
 Reads bytes None = (s : Said) → Begins bytes s → ⊥
+
+-- what is written of a record that was not spelt
+abbrev pub not_spelt : SpellError → List ℕ
+not_spelt TooLong = codes "a record has at most 1024 samples"
+not_spelt OutOfMemory = codes "out of memory"
 
 -- spelling a record puts its bytes behind those that are there; one that has too many samples puts none; of a want of memory nothing is said
 abbrev pub Spelt : Said → List ℕ → Result (Unit {0}) SpellError → List ℕ → Type 0

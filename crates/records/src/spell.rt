@@ -1,6 +1,6 @@
 // Spelling records in bytes.
-ghost use Rattle.std.specs.Prelude.{◌≡◌};
-ghost use Rattle.records.specs.Records.{said, hears, Spelt};
+ghost use Rattle.std.specs.Prelude.{◌≡◌, Some};
+ghost use Rattle.records.specs.Records.{said, hears, not_spelt, Spelt};
 ghost use Rattle.records.specs.declared.spell.SpellError.TheVariants.{OutOfMemory};
 
 use crate::read::MOST;
@@ -18,6 +18,8 @@ pub enum SpellError {
 }
 
 impl fmt::Display for SpellError {
+    ghost output = { λ e. Some (not_spelt e) };
+
     fn fmt<W: fmt::Write>(&self, f: &mut fmt::Formatter<W>) -> fmt::Result {
         f.write_str(match self {
             SpellError::TooLong => "a record has at most 1024 samples",
