@@ -83,12 +83,16 @@ module _ {C S P L : Type 0} {k : cost.Ghosts C S P} (laws : Laws k) {l : line.Gh
 
     -- what a coded bit that is sent meets is not nothing
     met_some : (j p : ℕ) (turned : Bool) → l.place f.line j ≡ Some (p, turned) → met_on l f.line due j ≢ []
-    met_some j p turned e none = let is : ◌≡◌ {A = List (S × Bool)} ((due p, turned) ∷ []) [] = sym (ap (placed due) e) ∙ none in absurd (let z : ◌≡◌ {A = ℕ} 0 1 = cc in omega arith)
+    met_some j p turned e none =
+        let is : ◌≡◌ {A = List (S × Bool)} ((due p, turned) ∷ []) [] = sym (ap (placed due) e) ∙ none in
+        absurd (let z : ◌≡◌ {A = ℕ} 0 1 = cc in omega arith)
 
     -- every place was heard
     all_heard : heard_of k due f.burst ≡ f.burst
-    all_heard = count_all (λ p. not (k.silent (due p))) 0 f.burst
-        (λ p below. let h : p < f.burst = omega arith in ap (λ s. not (k.silent s)) (heard.clean p h) ∙ ap not (clean_heard laws (odd (get_or (get_or sent (burst_of f c p) []) p 0))))
+    all_heard = count_all (λ p. not (k.silent (due p))) 0 f.burst (λ p below.
+        let h : p < f.burst = omega arith in
+        let bit = odd (get_or (get_or sent (burst_of f c p) []) p 0) in
+        ap (λ s. not (k.silent s)) (heard.clean p h) ∙ ap not (clean_heard laws bit))
 
     module _ (whole : length (get_or messages c []) ≡ f.message) where
       -- the message sent
@@ -127,7 +131,8 @@ module _ {C S P L : Type 0} {k : cost.Ghosts C S P} (laws : Laws k) {l : line.Gh
               by_parity : ((f.parity ≡ 0) ⊎ (f.parity ≡ 16)) → right f path ≡ true
               by_parity (inl none) = ap (λ n. eqb n 0 || eqb (remainder (drop f.code.memory path)) 0) none
               by_parity (inr wide) =
-                  let leaves : remainder (drop f.code.memory path) ≡ 0 = ap remainder bits ∙ ap (λ w. remainder (reverse (with_parity w message))) wide ∙ parity_closes message in
+                  let leaves : remainder (drop f.code.memory path) ≡ 0 =
+                  ap remainder bits ∙ ap (λ w. remainder (reverse (with_parity w message))) wide ∙ parity_closes message in
                   ap (λ n. eqb f.parity 0 || eqb n 0) leaves ∙ or-true (eqb f.parity 0)
 
           -- and the message is the one sent
@@ -142,7 +147,8 @@ module _ {C S P L : Type 0} {k : cost.Ghosts C S P} (laws : Laws k) {l : line.Gh
               ap (λ bits. map bit_of bits ++ drop f.message block) front
 
       -- so it is answered as it was sent
-      pub as_sent : (block : List ℕ) (reply : Reply k l) (block' : List ℕ) → Best k l f bursts b block reply block' → AsSent k l f bursts b message block reply block'
+      pub as_sent : (block : List ℕ) (reply : Reply k l) (block' : List ℕ) → Best k l f bursts b block reply block' →
+          AsSent k l f bursts b message block reply block'
       as_sent block reply block' best = record {
         path = best.path;
         rule = best.rule;
@@ -169,7 +175,8 @@ module _ {C S P L : Type 0} {k : cost.Ghosts C S P} (laws : Laws k) {l : line.Gh
           replies false e = let now = best.refused e in (now.0 ∙ ap (λ r. Err (WrongParity r)) tells, now.1)
 
 -- the burst of one format is that of another like it
-burst_alike : {L : Type 0} (l : line.Ghosts L) (f g : Format L) → Alike l f g → (messages : List (List Bool)) (n : ℕ) (burst : List ℕ) → BurstOf l f messages n burst →
+burst_alike : {L : Type 0} (l : line.Ghosts L) (f g : Format L) → Alike l f g → (messages : List (List Bool)) (n : ℕ) (burst : List ℕ) →
+    BurstOf l f messages n burst →
     BurstOf l g messages n burst
 burst_alike l f g alike messages n burst o = record {
   whole = o.whole ∙ alike.burst;
@@ -180,7 +187,8 @@ burst_alike l f g alike messages n burst o = record {
 }
 
 -- what opening has checked is what both ends agree on
-pub agreed_on : {B L : Type 0} (l : line.Ghosts L) (a : Proposal L) (f : Format L) → length a.code.taps ≡ 5 → first (open_rules {B = B} l a) ≡ None → Holds l a f → Agreed l f
+pub agreed_on : {B L : Type 0} (l : line.Ghosts L) (a : Proposal L) (f : Format L) → length a.code.taps ≡ 5 → first (open_rules {B = B} l a) ≡ None →
+    Holds l a f → Agreed l f
 agreed_on {B} l a f five none holds =
     let rules = first_none (open_rules {B = B} l a) none in
     let coded = a.code.rows * steps_of a.code a.message a.parity in

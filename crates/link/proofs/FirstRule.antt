@@ -61,7 +61,8 @@ module _ {B : Type 0} where
     all_such_tells has each place [] = tt
     all_such_tells has each place (x ∷ xs) = by_test (such x) (all_such_tells has each (suc place) xs)
       where
-        by_test : (t : Bool) → Tells has (all_such such refusal (suc place) xs) → Tells has (cond t (all_such such refusal (suc place) xs) (Some (refusal place)))
+        by_test : (t : Bool) → Tells has (all_such such refusal (suc place) xs) →
+            Tells has (cond t (all_such such refusal (suc place) xs) (Some (refusal place)))
         by_test true h = h
         by_test false h = each place
 

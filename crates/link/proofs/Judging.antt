@@ -15,7 +15,8 @@ use Rattle.trellis.specs.Bits.{odd}
 
 module _ {C S P L : Type 0} (k : cost.Ghosts C S P) (l : line.Ghosts L) (samples : List S) (r : Receiver C L S P) (m : Memory S P) (reply : Reply k l) where
   -- where a check refuses, the call that hands its refusal on and does no more is refused
-  pub judges_refused : (rules : Option (Refusal (Report C S P))) (x : Refusal (Report C S P)) → Err x ≡ passed rules → reply ≡ Err x → Judges k l rules samples r m reply r m
+  pub judges_refused : (rules : Option (Refusal (Report C S P))) (x : Refusal (Report C S P)) → Err x ≡ passed rules → reply ≡ Err x →
+      Judges k l rules samples r m reply r m
   judges_refused None x e h = let z : ◌≡◌ {A = ℕ} 0 1 = cc in absurd (omega arith)
   judges_refused (Some y) x e h = let same : x ≡ y = cc in record { replied = h ∙ ap Err same; receiver = refl; memory = refl }
 

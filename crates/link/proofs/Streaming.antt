@@ -92,7 +92,8 @@ module _ {L : Type 0} {l : line.Ghosts L} (laws : Laws l) (f : Format L) (lays :
   }
 
   -- which it stays when more messages are sent
-  burst_stays : (messages more : List (List Bool)) (n : ℕ) (burst : List ℕ) → n < length messages → BurstOf l f messages n burst → BurstOf l f (messages ++ more) n burst
+  burst_stays : (messages more : List (List Bool)) (n : ℕ) (burst : List ℕ) → n < length messages → BurstOf l f messages n burst →
+      BurstOf l f (messages ++ more) n burst
   burst_stays messages more n burst h b = record {
     whole = b.whole;
     carries = λ j k i turned e due.
@@ -141,7 +142,8 @@ module _ {L : Type 0} {l : line.Ghosts L} (laws : Laws l) (f : Format L) (lays :
       -- and the burst is that of its number
       this_burst : BurstOf l f messages' (length messages) sent.burst
       this_burst = spread_burst m'.ring sent.burst messages' (length messages) kept many
-          (subst (λ g. BurstFromRing l g (length messages) m'.ring sent.burst) before.format (subst (λ n. BurstFromRing l s.format n m'.ring sent.burst) before.counted sent.spread))
+          (subst (λ g. BurstFromRing l g (length messages) m'.ring sent.burst) before.format
+          (subst (λ n. BurstFromRing l s.format n m'.ring sent.burst) before.counted sent.spread))
 
       -- which is read at the front of the burst memory
       front : take s.format.burst m'.burst ≡ sent.burst
@@ -183,7 +185,8 @@ module _ {L : Type 0} {l : line.Ghosts L} (laws : Laws l) (f : Format L) (lays :
       }
 
     -- a send keeps the invariant
-    sends_invariant : (rules : Option (Refusal Infallible)) → first (send_rules s.format (sender_sizes m) s.counted message) ≡ rules → SendsBy l rules message s m reply s' m' →
+    sends_invariant : (rules : Option (Refusal Infallible)) → first (send_rules s.format (sender_sizes m) s.counted message) ≡ rules →
+        SendsBy l rules message s m reply s' m' →
         Invariant s' m'.ring (sending reply (map odd message) messages) (sending reply (take s.format.burst m'.burst) bursts)
     sends_invariant (Some x) is refused =
         subst (λ r. Invariant s' m'.ring (sending r (map odd message) messages) (sending r (take s.format.burst m'.burst) bursts)) (sym refused.replied)
@@ -193,7 +196,8 @@ module _ {L : Type 0} {l : line.Ghosts L} (laws : Laws l) (f : Format L) (lays :
         (sent_invariant is sent)
 
     -- and does what is claimed
-    sends_sound : (rules : Option (Refusal Infallible)) → first (send_rules s.format (sender_sizes m) s.counted message) ≡ rules → SendsBy l rules message s m reply s' m' →
+    sends_sound : (rules : Option (Refusal Infallible)) → first (send_rules s.format (sender_sizes m) s.counted message) ≡ rules →
+        SendsBy l rules message s m reply s' m' →
         StreamSound l f rules message messages s m reply s' m'
     sends_sound (Some x) is refused = record {
       refused = λ y e. let same : x ≡ y = cc in (refused.replied ∙ ap Err same, refused.sender, refused.memory);

@@ -75,27 +75,38 @@ module _ (message : List ℕ) (width : ℕ) where
       ∙ reverse-append (map odd message) (replicate width false)
       ∙ ap (λ r. r ++ reverse (map odd message)) (zeros_reversed width)
 
-  -- a run whose zeros are written over by what it leaves, bit by bit, is the message and its parity
-  pub run_written : (run front row : List ℕ) (left : ℕ) → run ≡ replicate (length message + width) 0 → front ≡ message →
-      left ≡ remainder (reverse (map odd (front ++ drop (length message) run))) →
-      row ≡ map bit_of (reverse (bits (length (take (length (front ++ drop (length message) run) - length message) (drop (length message) (front ++ drop (length message) run)))) left)) →
-      map odd (take (length message) (front ++ drop (length message) run)
-      ++ (row ++ drop (length (front ++ drop (length message) run) - length message) (drop (length message) (front ++ drop (length message) run)))) ≡ with_parity width (map odd message)
-  run_written run front row left zeros copied leaves bits_are =
-      let m = length message in
-      let none : List ℕ = replicate width 0 in
-      let wide : length none ≡ width = length-replicate {A = ℕ} width 0 in
-      let on : m + width - m ≡ width = omega arith in
-      let space : drop m run ≡ replicate width 0 = ap (drop m) zeros ∙ drop-replicate m (m + width) 0 ∙ ap (λ n. replicate n 0) on in
-      let whole : front ++ drop m run ≡ spaced = λ i. copied i ++ space i in
-      let back : drop m spaced ≡ replicate width 0 = drop-append_seam message (replicate width 0) in
-      let long : length spaced - m ≡ width = simp (length-append, length-replicate) on in
-      let part : length (take (length spaced - m) (drop m spaced)) ≡ width = (λ i. length (take (long i) (back i))) ∙ length-take-le width none (omega (arith, wide)) in
-      let past : drop (length spaced - m) (drop m spaced) ≡ [] = (λ i. drop (long i) (back i)) ∙ drop_all width none (omega (arith, wide)) in
-      let bytes : row ≡ map bit_of (parity_of width (map odd message)) = bits_are
-      ∙ (λ i. map bit_of (reverse (bits ((ap (λ xs. length (take (length xs - m) (drop m xs))) whole ∙ part) i) ((leaves ∙ ap (λ xs. remainder (reverse (map odd xs))) whole ∙ ap remainder spaced_reversed) i)))) in
-      ap (λ xs. map odd (take m xs ++ (row ++ drop (length xs - m) (drop m xs)))) whole
-      ∙ ap₂ (λ xs ys. map odd (xs ++ (row ++ ys))) (take-append_seam message (replicate width 0)) past
-      ∙ ap (λ xs. map odd (message ++ xs)) (append-nil row ∙ bytes)
-      ∙ map-append odd message (map bit_of (parity_of width (map odd message)))
-      ∙ ap (λ r. map odd message ++ r) (odd_bits (parity_of width (map odd message)))
+  -- a run with the message written over its front, the places after the message, and how many they are
+  module _ (run front : List ℕ) where
+    abbrev pub begun : List ℕ
+    begun = front ++ drop (length message) run
+
+    abbrev pub after : List ℕ
+    after = drop (length message) begun
+
+    abbrev pub left_over : ℕ
+    left_over = length begun - length message
+
+    -- where there were zeros, and what the run leaves is written there, bit by bit, it is the message and its parity
+    pub run_written : (row : List ℕ) (left : ℕ) → run ≡ replicate (length message + width) 0 → front ≡ message → left ≡ remainder (reverse (map odd begun)) →
+        row ≡ map bit_of (reverse (bits (length (take left_over after)) left)) →
+        map odd (take (length message) begun ++ (row ++ drop left_over after)) ≡ with_parity width (map odd message)
+    run_written row left zeros copied leaves bits_are =
+        let m = length message in
+        let none : List ℕ = replicate width 0 in
+        let wide : length none ≡ width = length-replicate {A = ℕ} width 0 in
+        let on : m + width - m ≡ width = omega arith in
+        let space : drop m run ≡ none = ap (drop m) zeros ∙ drop-replicate m (m + width) 0 ∙ ap (λ n. replicate n 0) on in
+        let whole : begun ≡ spaced = λ i. copied i ++ space i in
+        let back : after ≡ none = ap (drop m) whole ∙ drop-append_seam message none in
+        let long : left_over ≡ width = ap (λ xs. length xs - m) whole ∙ simp (length-append, length-replicate) on in
+        let part : length (take left_over after) ≡ width =
+        (λ i. length (take (long i) (back i))) ∙ length-take-le width none (omega (arith, wide)) in
+        let past : drop left_over after ≡ [] = (λ i. drop (long i) (back i)) ∙ drop_all width none (omega (arith, wide)) in
+        let parity = parity_of width (map odd message) in
+        let value : left ≡ remainder (replicate width false ++ reverse (map odd message)) =
+        leaves ∙ ap (λ xs. remainder (reverse (map odd xs))) whole ∙ ap remainder spaced_reversed in
+        let bytes : row ≡ map bit_of parity = bits_are ∙ (λ i. map bit_of (reverse (bits (part i) (value i)))) in
+        ap₂ (λ xs ys. map odd (xs ++ (row ++ ys))) (ap (take m) whole ∙ take-append_seam message none) past
+        ∙ ap (λ xs. map odd (message ++ xs)) (append-nil row ∙ bytes)
+        ∙ map-append odd message (map bit_of parity)
+        ∙ ap (λ r. map odd message ++ r) (odd_bits parity)

@@ -87,7 +87,8 @@ module _ {C S P : Type 0} {k : Ghosts C S P} (laws : Laws k) where
         ∙ grown_rows_agrees p (suc j) rs (λ i n h e. same (suc i) n (omega arith) (omega arith)) c
 
     -- where it leaves zero, its first row sends as was sent
-    grown_rows_first : (p : List Bool) (j taps : ℕ) (rs : List ℕ) → k.le (grown_rows k rows met k.ZERO p j (taps ∷ rs)) k.ZERO ≡ true → met j ≢ [] → summed taps p ≡ sent j
+    grown_rows_first : (p : List Bool) (j taps : ℕ) (rs : List ℕ) → k.le (grown_rows k rows met k.ZERO p j (taps ∷ rs)) k.ZERO ≡ true → met j ≢ [] →
+        summed taps p ≡ sent j
     grown_rows_first p j taps rs h =
         let later = grown_rows_raises p (suc j) rs (grown_by k k.ZERO (summed taps p) (met j)) in
         grown_by_tells (summed taps p) (sent j) (met j) (heard j) (laws.trans _ _ _ later h)
@@ -102,7 +103,8 @@ module _ {C S P : Type 0} {k : Ghosts C S P} (laws : Laws k) where
         grown_rows_tells p (suc j) rs (subst (λ c. k.le (grown_rows k rows met c p (suc j) rs) k.ZERO ≡ true) left h) i n (omega arith) (omega arith) some
 
     -- the coded bits of a path's newest step
-    newest_row : (b : Bool) (p : List Bool) (i n : ℕ) → i < length rows → n ≡ length rows * length p + i → coded_bit code (reverse (b ∷ p)) n ≡ summed (get_or rows i 0) (b ∷ p)
+    newest_row : (b : Bool) (p : List Bool) (i n : ℕ) → i < length rows → n ≡ length rows * length p + i →
+        coded_bit code (reverse (b ∷ p)) n ≡ summed (get_or rows i 0) (b ∷ p)
     newest_row b p i n h e =
         let place : n ≡ code.rows * length p + i = e ∙ ap (λ r. r * length p + i) given in
         ap (coded_bit code (reverse (b ∷ p))) place ∙ coded_newest code b p i (omega arith)

@@ -57,7 +57,8 @@ module _ (code : Code) where
       ∙ coded_closed run m j
 
   -- the coded bits of a path's newest step are the sums of the rows over it
-  pub coded_newest : (b : Bool) (p : List Bool) (i : ℕ) → i < code.rows → coded_bit code (reverse (b ∷ p)) (code.rows * length p + i) ≡ summed (get_or (rows_of code) i 0) (b ∷ p)
+  pub coded_newest : (b : Bool) (p : List Bool) (i : ℕ) → i < code.rows →
+      coded_bit code (reverse (b ∷ p)) (code.rows * length p + i) ≡ summed (get_or (rows_of code) i 0) (b ∷ p)
   coded_newest b p i h =
       let place : code.rows * length p + i ≡ length p * code.rows + i = omega (arith, mul_comm code.rows (length p)) in
       let row = mod-mul-add (length p) code.rows i h in

@@ -11,7 +11,7 @@ unfoldable pub remainder : List Bool → ℕ
 remainder [] = 0
 remainder (b ∷ p) = reduced (remainder p * 2 + bit_of b)
 
--- so many parity bits of a run, the highest power first: the remainder that the run leaves with as many zeros after it
+-- the parity of a run, 16 bits or none, the highest power first: the remainder that the run leaves with as many zeros after it
 abbrev pub parity_of : ℕ → List Bool → List Bool
 parity_of width run = reverse (bits width (remainder (replicate width false ++ reverse run)))
 
