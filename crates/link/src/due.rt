@@ -24,12 +24,11 @@ impl<'r, 'f, C: Cost, L: Line> Due<'r, 'f, C, L> {
         ensures { result ≡ in_ring C.Cost self.now.format.now self.now.ring.now self.now.block place }
     {
         let depth = self.format.depth;
-        let burst = self.format.burst;
-        if place >= burst {
+        if place >= self.format.burst {
             return C::NOTHING;
         }
-        let row = (self.block % depth + place % depth) % depth;
-        match self.ring.get(row * burst + place) {
+        let start = self.format.ring_start(self.block % depth + place % depth);
+        match self.ring.get(start + place) {
             Some(sample) => weighed::<C>(*sample),
             None => C::NOTHING,
         }

@@ -23,7 +23,7 @@ returns-in-Some g c =
     let b = c.args.self.now.block in
     let p = c.args.place in
     let s : c.in-Some.sample.now ≡ get_or ring ((b % f.depth + p % f.depth) % f.depth * f.burst + p) k.NOTHING = search rules in
-    c.weighed.ensures ∙ ap (weighed k) s ∙ in_cell k f ring b p c.if-place-burst.false
+    c.weighed.ensures ∙ ap (weighed k) s ∙ in_cell k f ring b p c.if-place-self.false
 
 pub returns-in-None : goal.returns-in-None
 returns-in-None g c =
@@ -35,4 +35,4 @@ returns-in-None g c =
     let past : length ring ≤ (b % f.depth + p % f.depth) % f.depth * f.burst + p = search rules in
     c.NOTHING-in-None.ensures
     ∙ sym (ap (weighed k) (get_or_past ring _ k.NOTHING past) ∙ cond-true _ _ _ g.met.C.Cost.nothing_fit)
-    ∙ in_cell k f ring b p c.if-place-burst.false
+    ∙ in_cell k f ring b p c.if-place-self.false
