@@ -43,8 +43,12 @@ pub fn spell(record: Record<'_>, bytes: &mut Vec<u8>) -> Result<(), SpellError>
     ensures { Spelt (said «record».entry) bytes.old.items result bytes.new.items }
 {
     match record {
-        Record::Open { channel, kind } =>
-            bytes.extend_from_slice(&[b'O', b'P', u8::from(channel), u8::from(kind)])?,
+        Record::Open { channel, kind } => bytes.extend_from_slice(&[
+            b'O',
+            b'P',
+            u8::from(channel),
+            u8::from(kind),
+        ])?,
         Record::Hear(samples) => return spell_heard(samples, bytes),
         Record::Miss => bytes.extend_from_slice(b"MI")?,
         Record::Stolen => bytes.extend_from_slice(b"ST")?,
