@@ -13,7 +13,7 @@ use std::io::Read;
 use std::process::ExitCode;
 
 // What was wrong with the command line, or the help that it asks for.
-fn explain(rt: &HostRuntime, error: &Error) -> anyhow::Result<ExitCode> {
+fn explain(rt: &(impl Print + Eprint), error: &Error) -> anyhow::Result<ExitCode> {
     error.print(rt)?;
     Ok(if error.use_stderr() {
         ExitCode::FAILURE
