@@ -1,6 +1,6 @@
 // Spelling records in bytes.
 ghost use Rattle.std.specs.Prelude.{◌≡◌, Some};
-ghost use Rattle.records.specs.Records.{said, hears, not_spelt, Spelt};
+ghost use Rattle.records.specs.Records.{said, hears, not_spelt, Spells};
 ghost use Rattle.records.specs.declared.spell.SpellError.TheVariants.{OutOfMemory};
 
 use crate::read::MOST;
@@ -40,7 +40,7 @@ impl From<AllocError> for SpellError {
 
 // Puts the bytes of the record behind those that are there.
 pub fn spell(record: Record<'_>, bytes: &mut Vec<u8>) -> Result<(), SpellError>
-    ensures { Spelt (said «record».entry) bytes.old.items result bytes.new.items }
+    ensures { Spells (said «record».entry) bytes.old.items result bytes.new.items }
 {
     match record {
         Record::Open { channel, kind } => bytes.extend_from_slice(&[
@@ -58,7 +58,7 @@ pub fn spell(record: Record<'_>, bytes: &mut Vec<u8>) -> Result<(), SpellError>
 }
 
 fn spell_heard(samples: &[u8], bytes: &mut Vec<u8>) -> Result<(), SpellError>
-    ensures { Spelt (hears samples.now) bytes.old.items result bytes.new.items }
+    ensures { Spells (hears samples.now) bytes.old.items result bytes.new.items }
 {
     if samples.len() > MOST {
         return Err(SpellError::TooLong);
