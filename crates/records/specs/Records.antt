@@ -62,11 +62,11 @@ abbrev pub not_spelt : SpellError → List ℕ
 not_spelt TooLong = codes "a record has at most 1024 samples"
 not_spelt OutOfMemory = codes "out of memory"
 
--- spelling a record puts its bytes behind those that are there; one that has too many samples puts none; of a want of memory nothing is said
-abbrev pub Spells : Said → List ℕ → Result (Unit {0}) SpellError → List ℕ → Type 0
-Spells s before (Ok _) after = (samples_in s ≤ 1024) × (after ≡ before ++ spelling s)
-Spells s before (Err TooLong) after = (1024 < samples_in s) × (after ≡ before)
-Spells s before (Err OutOfMemory) after = Unit {0}
+-- spelling a record puts its bytes behind those that are there; one that has too many samples, or for which there is no memory, puts none
+abbrev pub Appends : Said → List ℕ → Result (Unit {0}) SpellError → List ℕ → Type 0
+Appends s before (Ok _) after = (samples_in s ≤ 1024) × (after ≡ before ++ spelling s)
+Appends s before (Err TooLong) after = (1024 < samples_in s) × (after ≡ before)
+Appends s before (Err OutOfMemory) after = (samples_in s ≤ 1024) × (after ≡ before)
 
 -- a byte that names no kind of cost
 abbrev pub NamesNoKind : ℕ → Type 0
