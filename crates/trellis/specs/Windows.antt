@@ -2,6 +2,7 @@
 -- Window w comes from register w / 2, and windows s and s + 2 ^ memory meet in register s.
 use Rattle.std.specs.Prelude.{◌≡◌, ℕ, ◌+◌, ◌*◌, ◌/◌, ◌<◌, Bool, true, false, not, cond, List, [], length, Some, None, Option, ◌==◌, ◌≢◌, slice_index, slice_index_or}
 use Rattle.cost.specs.declared.kind.Cost.{Ghosts}
+use Rattle.cost.specs.declared.kind.TheConstants.{MOST_WINDOWS}
 use Rattle.trellis.specs.Bits.{bit_of, bits}
 use Rattle.trellis.specs.Codes.{summed}
 use Rattle.trellis.specs.Paths.{grown_rows}
@@ -9,7 +10,7 @@ use Rattle.trellis.specs.Paths.{grown_rows}
 -- a table has for each row the coded bit at each window
 abbrev pub Coded : List ℕ → List (List Bool) → Type 0
 Coded rows table =
-    (i w : ℕ) → i < length rows → w < 32 → slice_index_or (slice_index_or table i []) w false ≡ summed (slice_index rows i) (bits 8 w)
+    (i w : ℕ) → i < length rows → w < MOST_WINDOWS → slice_index_or (slice_index_or table i []) w false ≡ summed (slice_index rows i) (bits 8 w)
 
 -- every register was reached
 abbrev pub Whole : {P : Type 0} → List (Option P) → Type 0

@@ -8,7 +8,7 @@ ghost use Rattle.trellis.specs.Windows.{Chosen, ChosenMarks, Grown, LaidLower, M
 
 use crate::received::{Received, weighed};
 use crate::windows::Trellis;
-use cost::kind::Cost;
+use cost::kind::{Cost, MOST_WINDOWS};
 use std::mem::swap;
 
 // Takes up each register's cost into both its windows, and tells whether every register was reached.
@@ -32,8 +32,8 @@ fn spread<C: Cost>(old: &[Option<C::Plain>], costs: &mut [C]) -> bool
 }
 
 // Grows each window by one sample against its coded bit.
-fn grow_row<C: Cost>(costs: &mut [C], bits: &[bool; 32], sample: C::Sample, turned: bool)
-    requires few { length costs.old ≤ 32 }
+fn grow_row<C: Cost>(costs: &mut [C], bits: &[bool; MOST_WINDOWS], sample: C::Sample, turned: bool)
+    requires few { length costs.old ≤ MOST_WINDOWS }
     requires fit { C.Cost.fit sample ≡ true }
     ensures { (w : ℕ) → w < length costs.old → slice_index_or costs.new w C.Cost.ZERO ≡ C.Cost.grow (slice_index_or costs.old w C.Cost.ZERO) sample (xor (slice_index_or bits.now w false) turned) }
 {
@@ -161,7 +161,7 @@ impl Trellis {
         heard: &H,
         costs: &mut [C],
     )
-        requires few { (t < self.now.steps) × (length costs.old ≤ 32) }
+        requires few { (t < self.now.steps) × (length costs.old ≤ MOST_WINDOWS) }
         ensures { Grown C.Cost (rows_of self.now.code) (read C.Cost (H.Received.met heard.now)) t costs.old costs.new }
     {
         let rows = self.code.rows;
@@ -189,7 +189,7 @@ impl Trellis {
         ensures cells { Cells C.Cost (rows_of self.now.code) (read C.Cost (H.Received.met heard.now)) self.now.code.memory (suc t) new.new }
         ensures marks { (s : ℕ) → s < 2 ^ self.now.code.memory → Marked self.now.code.memory (kept_at C.Cost (rows_of self.now.code) (read C.Cost (H.Received.met heard.now)) self.now.code.memory) (slice_index marks.new s) t s }
     {
-        let mut windows = [C::ZERO; 32];
+        let mut windows = [C::ZERO; MOST_WINDOWS];
         let costs = &mut windows[..2 * old.len()];
         let whole = spread::<C>(old, costs);
         self.grow_rows::<C, H>(t, heard, costs);

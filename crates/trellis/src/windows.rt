@@ -6,6 +6,7 @@ ghost use Rattle.trellis.specs.Decoding.{in_range};
 ghost use Rattle.trellis.specs.Windows.{Coded};
 
 use crate::code::Code;
+use cost::kind::MOST_WINDOWS;
 
 const MOST_STEPS: usize = 2048;
 
@@ -14,7 +15,7 @@ const MOST_STEPS: usize = 2048;
 pub(crate) struct Trellis {
     pub(crate) code: Code,
     pub(crate) steps: usize,
-    pub(crate) table: [[bool; 32]; 5],
+    pub(crate) table: [[bool; MOST_WINDOWS]; 5],
     ghost checked: { sound code ≡ true },
     ghost closed: { code.memory ≤ steps },
     ghost few: { steps ≤ 2048 },
@@ -29,10 +30,10 @@ pub(crate) fn row_bit(window: u8, taps: u8) -> bool
 }
 
 // The bit that a row of taps sends at each window.
-fn row_bits(taps: u8) -> [bool; 32]
-    ensures { (w : ℕ) → w < 32 → slice_index_or result w false ≡ summed taps (bits 8 w) }
+fn row_bits(taps: u8) -> [bool; MOST_WINDOWS]
+    ensures { (w : ℕ) → w < MOST_WINDOWS → slice_index_or result w false ≡ summed taps (bits 8 w) }
 {
-    let mut bits = [false; 32];
+    let mut bits = [false; MOST_WINDOWS];
     for (window, bit) in bits.iter_mut().enumerate() {
         *bit = row_bit(window as u8, taps);
     }
@@ -40,10 +41,10 @@ fn row_bits(taps: u8) -> [bool; 32]
 }
 
 // The bit that each row of a code sends at each window.
-fn coded_bits(code: &Code) -> [[bool; 32]; 5]
+fn coded_bits(code: &Code) -> [[bool; MOST_WINDOWS]; 5]
     ensures { Coded (rows_of code.now) result }
 {
-    let mut table = [[false; 32]; 5];
+    let mut table = [[false; MOST_WINDOWS]; 5];
     for (i, bits) in table.iter_mut().enumerate() {
         *bits = row_bits(code.taps[i]);
     }
