@@ -27,3 +27,14 @@ pub record Answered {C S P : Type 0} (k : Ghosts C S P) (rows : List ℕ) (met :
       k.le (cost_of k rows met path) (cost_of k rows met (replicate memory false ++ reverse run)) ≡ true
   pub own : cost ≡ Some (cost_of k rows met path)
   pub traced : take steps paths ≡ map bit_of (reverse path)
+
+-- memory that is free: it may hold anything, and is as long as before
+abbrev pub Freed : {X : Type 0} → List X → List X → Type 0
+Freed before after = length after ≡ length before
+
+-- the decoder has run
+pub record Decodes {C S P : Type 0} (k : Ghosts C S P) (rows : List ℕ) (met : ℕ → List (S × Bool)) (memory steps : ℕ) (cost : Option C)
+    (cells cells' : List (Option P)) (paths paths' : List ℕ) : Type 0 where
+  pub answered : Answered k rows met memory steps cost paths'
+  -- what the cells hold, and what the path record holds past the answer
+  pub freed : Freed cells cells' × Freed paths paths'

@@ -1,7 +1,7 @@
 // The decoder: the path that the trellis rule answers, and its cost.
 ghost use Rattle.std.specs.Prelude.{◌≡◌, ◌*◌, ◌^◌, true, false, length, None};
 ghost use Rattle.trellis.specs.Codes.{rows_of};
-ghost use Rattle.trellis.specs.Decoding.{Answered, has_room, ready};
+ghost use Rattle.trellis.specs.Decoding.{Answered, Decodes, has_room, ready};
 ghost use Rattle.trellis.specs.Met.{read};
 
 use crate::code::Code;
@@ -44,7 +44,7 @@ pub fn decide<C: Cost, H: Received<Sample = C::Sample>>(
     cells: &mut [Option<C::Plain>],
     paths: &mut [u8],
 ) -> Option<C>
-    ensures decided { ready code.now steps (length cells.old) (length paths.old) ≡ true → Answered C.Cost (rows_of code.now) (read C.Cost (H.Received.met heard.now)) code.now.memory steps result paths.new }
+    ensures decided { ready code.now steps (length cells.old) (length paths.old) ≡ true → Decodes C.Cost (rows_of code.now) (read C.Cost (H.Received.met heard.now)) code.now.memory steps result cells.old cells.new paths.old paths.new }
     ensures refused { ready code.now steps (length cells.old) (length paths.old) ≡ false → (result ≡ None) × (cells.new ≡ cells.old) × (paths.new ≡ paths.old) }
 {
     let trellis = Trellis::new(code, steps)?;

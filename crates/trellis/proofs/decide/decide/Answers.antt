@@ -1,4 +1,4 @@
-use Rattle.std.proofs.Common.{◌≡◌, ◌*◌, ◌^◌, ◌≤◌, true, length, sym, ap, ◌∙◌, subst, ap₂, arith}
+use Rattle.std.proofs.Common.{◌≡◌, ◌*◌, ◌^◌, ◌≤◌, true, length, sym, ap, ◌∙◌, subst, ap₂, arith, rules}
 use Rattle.std.proofs.lemmas.List.{length-take}
 use Rattle.std.proofs.lemmas.Bool.{and_parts, both_ways, le-leb, leb-true}
 use Rattle.std.specs.Cmp.Derive.{both_true}
@@ -29,6 +29,9 @@ returns g c =
     let ran = subst (λ n. Answered k (rows_of code) met m n c.answer.result c.answer.new.paths) run c.answer.ensures in
     let answered = subst (λ a. Answered k (rows_of a) met a.memory c.args.steps c.answer.result c.answer.new.paths) own ran in
     record {
-      decided = λ _. answered_longer k (rows_of c.args.code.now) met c.args.code.now.memory c.args.steps c.answer.result c.answer.new.paths _ long answered;
+      decided = λ _. record {
+        answered = answered_longer k (rows_of c.args.code.now) met c.args.code.now.memory c.args.steps c.answer.result c.answer.new.paths _ long answered;
+        freed = (search rules, search rules);
+      };
       refused = λ e. absurd (both_ways _ e given);
     }
