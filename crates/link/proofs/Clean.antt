@@ -2,8 +2,7 @@
 use Rattle.std.proofs.Common.{◌≡◌, ℕ, zero, suc, ◌+◌, ◌*◌, ◌%◌, ◌<◌, ◌≤◌, Bool, true, false, ◌||◌, cond, not, eqb, List, [], ◌∷◌, ◌++◌, map, reverse, length, get_or, take, drop, replicate, Some, None, Ok, Err, Option, ◌⊎◌, ◌≢◌, sym, refl, ap, ◌∙◌, subst, ap₂, inl, inr, mod-lt, arith}
 use Rattle.std.specs.List.{AllByRecursion, range_with_len, count_by}
 use lib.ListN.{length-replicate}
-use lib.Seq.{take_at, drop_at}
-use Rattle.std.proofs.Math.Bool.{or-true}
+use lib.Seq.{take_at}
 use Rattle.std.proofs.lemmas.Bool.{and_parts, cases_lt, eqb-true, or_cases}
 use Rattle.std.proofs.lemmas.List.{length-take-le, reverse-append, reverse-reverse, take-append-le}
 use Rattle.std.proofs.lemmas.List.Sums.{sum_by-cons}
@@ -24,17 +23,19 @@ use Rattle.trellis.proofs.Soundness.{sound_parts}
 use Rattle.link.specs.declared.format.Format.{Format}
 use Rattle.link.specs.declared.proposal.Proposal.{Proposal}
 use Rattle.link.specs.declared.receiver.Receiver.{Receiver}
-use Rattle.link.specs.declared.refusal.Refusal.TheVariants.{WrongParity}
-use Rattle.link.specs.declared.report.Answer.TheVariants.{Block}
-use Rattle.link.specs.BothEnds.{Alike, FirstRowSent, HeardClean, costless_report, AsSent, AllAsSent}
-use Rattle.link.specs.Calls.{right, written, Reply, answer_due, report_of}
+use Rattle.link.specs.declared.refusal.Group.TheVariants.{Air}
+use Rattle.link.specs.BothEnds.{Alike, FirstRowSent, HeardClean, AsSent, AsSentBy, AllAsSent}
+use Rattle.link.specs.Calls.{Memory, right, written, Reply, answer_due, silence}
 use Rattle.link.specs.Due.{burst_of, placed, met_on, in_bursts, heard_of}
 use Rattle.link.specs.Histories.{Best, AllSound}
 use Rattle.link.specs.Opening.{Holds}
 use Rattle.link.specs.Rules.{first, open_rules, between, steps_of, steps}
 use Rattle.link.specs.Sending.{run_of}
 use Rattle.link.specs.Streams.{BurstOf}
+use Rattle.link.specs.Outcomes.{tells_block}
+use Rattle.link.specs.Refusals.{tells, refusal}
 use Rattle.link.proofs.FirstRule.{first_none, unless_none}
+use Rattle.link.proofs.Parity.{Widths, run_right, written_run}
 use Rattle.link.proofs.Streaming.{within}
 
 -- what both ends agree on, beside the format: what opening has checked of it
@@ -42,7 +43,7 @@ pub record Agreed {L : Type 0} (l : line.Ghosts L) (f : Format L) : Type 0 where
   pub rows : length (rows_of f.code) ≡ f.code.rows
   pub lays : f.burst ≡ l.sent f.line
   pub coded : l.coded f.line ≡ f.code.rows * steps f
-  pub parity : (f.parity ≡ 0) ⊎ (f.parity ≡ 16)
+  pub parity : Widths f.parity
 
 -- of numbers that all pass, all are counted
 count_all : (test : ℕ → Bool) (from n : ℕ) → ((i : ℕ) → i < from + n → test i ≡ true) → count_by test (range_with_len from n) ≡ n
@@ -121,30 +122,12 @@ module _ {C S P L : Type 0} {k : cost.Ghosts C S P} (laws : Laws k) {l : line.Gh
         same_run first_row = answer.whole (λ t h. let at = first_row t h in met_some (f.code.rows * t) at.0 at.1 at.2)
 
         module _ (is : path ≡ replicate f.code.memory false ++ reverse run) where
-          -- of which parity is right
-          run_right : right f path ≡ true
-          run_right = by_parity agreed.parity
-            where
-              bits : drop f.code.memory path ≡ reverse run
-              bits = ap (drop f.code.memory) is ∙ drop_at (replicate f.code.memory false) (reverse run) f.code.memory (length-replicate f.code.memory false)
-
-              by_parity : ((f.parity ≡ 0) ⊎ (f.parity ≡ 16)) → right f path ≡ true
-              by_parity (inl none) = ap (λ n. eqb n 0 || eqb (remainder (drop f.code.memory path)) 0) none
-              by_parity (inr wide) =
-                  let leaves : remainder (drop f.code.memory path) ≡ 0 =
-                  ap remainder bits ∙ ap (λ w. remainder (reverse (with_parity w message))) wide ∙ parity_closes message in
-                  ap (λ n. eqb f.parity 0 || eqb n 0) leaves ∙ or-true (eqb f.parity 0)
-
-          -- and the message is the one sent
+          -- the message is the one that is written
           run_message : (block : List ℕ) → written f path block ≡ map bit_of message ++ drop f.message block
           run_message block =
-              let back : reverse path ≡ run ++ reverse (replicate f.code.memory false) =
-              ap reverse is ∙ reverse-append (replicate f.code.memory false) (reverse run) ∙ ap (λ r. r ++ reverse (replicate f.code.memory false)) (reverse-reverse run) in
               let long : f.message ≤ length run = let wide = with_parity_length f.parity message in omega (arith, wide, whole) in
-              let front : take f.message (reverse path) ≡ message =
-              ap (take f.message) back ∙ take-append-le f.message run (reverse (replicate f.code.memory false)) long
-              ∙ take_at message (parity_of f.parity message) f.message whole in
-              ap (λ bits. map bit_of bits ++ drop f.message block) front
+              written_run f path run is long block
+              ∙ ap (λ bits. map bit_of bits ++ drop f.message block) (take_at message (parity_of f.parity message) f.message whole)
 
       -- so it is answered as it was sent
       pub as_sent : (block : List ℕ) (reply : Reply k l) (block' : List ℕ) → Best k l f bursts b block reply block' →
@@ -154,25 +137,26 @@ module _ {C S P L : Type 0} {k : cost.Ghosts C S P} (laws : Laws k) {l : line.Gh
         rule = best.rule;
         costless = own.costless;
         same = same_bits best.path best.rule;
-        told = (replies (right f best.path) refl).0;
+        told = best.told ∙ (λ i. Some (tells_block b (own.costless i) (all_heard i)));
+        refused = (replies (right f best.path) refl).0;
         wrote = (replies (right f best.path) refl).1;
-        whole = λ first_row. let is = same_run best.path best.rule first_row in (is, run_right best.path best.rule is);
+        whole = λ first_row. let is = same_run best.path best.rule first_row in (is, right_path is);
         reported = λ first_row.
             let is = same_run best.path best.rule first_row in
-            let now = best.reported (run_right best.path best.rule is) in
-            (now.0 ∙ ap (λ r. Ok (Block r)) tells, now.1 ∙ run_message best.path best.rule is block);
+            let now = replies true (right_path is) in
+            (now.0, now.1 ∙ run_message best.path best.rule is block);
       }
         where
           own : CleanAnswer k f.code (met_on l f.line due) (steps f) run best.path
           own = answer best.path best.rule
 
-          tells : report_of k l f due b best.path ≡ costless_report k l f b
-          tells = λ i. record { block = b; cost = own.costless i; heard = all_heard i }
+          right_path : best.path ≡ replicate f.code.memory false ++ reverse run → right f best.path ≡ true
+          right_path is = run_right f best.path run is agreed.parity message refl
 
           replies : (t : Bool) → right f best.path ≡ t →
-              (reply ≡ cond t (Ok (Block (costless_report k l f b))) (Err (WrongParity (costless_report k l f b)))) × (block' ≡ cond t (written f best.path block) block)
-          replies true e = let now = best.reported e in (now.0 ∙ ap (λ r. Ok (Block r)) tells, now.1)
-          replies false e = let now = best.refused e in (now.0 ∙ ap (λ r. Err (WrongParity r)) tells, now.1)
+              (refusal reply ≡ cond t None (Some (tells 11 Air 0))) × (block' ≡ cond t (written f best.path block) block)
+          replies true e = let now = best.reported e in (now.1, now.2 ∙ sym (written_run f best.path best.run best.own (omega (arith, best.long)) block))
+          replies false e = let now = best.refused e in (now.1, now.2)
 
 -- the burst of one format is that of another like it
 burst_alike : {L : Type 0} (l : line.Ghosts L) (f g : Format L) → Alike l f g → (messages : List (List Bool)) (n : ℕ) (burst : List ℕ) →
@@ -187,10 +171,10 @@ burst_alike l f g alike messages n burst o = record {
 }
 
 -- what opening has checked is what both ends agree on
-pub agreed_on : {B L : Type 0} (l : line.Ghosts L) (a : Proposal L) (f : Format L) → length a.code.taps ≡ 5 → first (open_rules {B = B} l a) ≡ None →
+pub agreed_on : {L : Type 0} (l : line.Ghosts L) (a : Proposal L) (f : Format L) → length a.code.taps ≡ 5 → first (open_rules l a) ≡ None →
     Holds l a f → Agreed l f
-agreed_on {B} l a f five none holds =
-    let rules = first_none (open_rules {B = B} l a) none in
+agreed_on l a f five none holds =
+    let rules = first_none (open_rules l a) none in
     let coded = a.code.rows * steps_of a.code a.message a.parity in
     let lengths = and_parts (between 1 512 a.message) _ (unless_none _ _ rules.1.0) in
     let parity = and_parts (eqb a.parity 0 || eqb a.parity 16) _ lengths.1 in
@@ -212,13 +196,23 @@ agreed_on {B} l a f five none holds =
 
 module _ {C S P L : Type 0} {k : cost.Ghosts C S P} (laws : Laws k) {l : line.Ghosts L} (line_laws : lines.Laws l) (opened : Receiver C L S P)
     (agreed : Agreed l opened.format) (sound : AllSound k l opened) where
-  -- every block that is heard clean is answered as it was sent
-  pub all_as_sent : AllAsSent k l opened
-  all_as_sent f messages sent alike stream r r' bursts samples m m' reply past hears none b c ends heard =
+  -- where a call decides the block that it ends as claimed, it answers what was heard clean as it was sent
+  decided_as_sent : (bursts : List (List S)) (samples : List S) (m m' : Memory S P) (reply : Reply k l) →
+      ((b : ℕ) → b + opened.format.depth ≡ length bursts + 1 → Best k l opened.format (bursts ++ (samples ∷ [])) b m.block reply m'.block) →
+      AsSentBy k l opened bursts samples m reply m'
+  decided_as_sent bursts samples m m' reply decides f messages sent alike stream b c ends heard =
       let g = opened.format in
       let some = g.least_depth in
       let within : c < length messages = omega (arith, stream.as_many, heard.ended) in
       as_sent laws line_laws g agreed (bursts ++ (samples ∷ [])) b sent c messages
       (λ n h. let early : n < length messages = omega (arith, stream.as_many) in burst_alike l f g alike messages n (get_or sent n []) (stream.each n early))
-      heard (stream.lengths c within ∙ alike.message) m.block reply m'.block
-      ((sound.hears r r' bursts samples m m' reply past hears).decides none b ends)
+      heard (stream.lengths c within ∙ alike.message) m.block reply m'.block (decides b ends)
+
+  -- every block that is heard clean is answered as it was sent
+  pub all_as_sent : AllAsSent k l opened
+  all_as_sent = record {
+    hears = λ r r' bursts samples m m' reply past hears none.
+        decided_as_sent bursts samples m m' reply ((sound.hears r r' bursts samples m m' reply past hears).decides none);
+    misses = λ r r' bursts m m' reply past misses none.
+        decided_as_sent bursts (silence k l opened.format) m m' reply ((sound.misses r r' bursts m m' reply past misses).decides none);
+  }

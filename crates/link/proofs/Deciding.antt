@@ -1,5 +1,5 @@
 -- What the bits at the front of the path record say of the path: its parity, and its message.
-use Rattle.std.proofs.Common.{◌≡◌, ℕ, ◌+◌, ◌≤◌, Bool, true, false, List, ◌++◌, map, reverse, length, take, drop, Ok, Err, sym, ap, ◌∙◌, arith}
+use Rattle.std.proofs.Common.{◌≡◌, ℕ, ◌+◌, ◌≤◌, Bool, true, false, List, ◌++◌, map, reverse, length, take, drop, Some, None, Ok, Err, sym, ap, ◌∙◌, arith}
 use Rattle.std.proofs.lemmas.List.{length-drop, length-reverse, reverse-append, reverse-reverse, take-append-drop, take_at, take-map, take-take}
 use Rattle.std.proofs.lemmas.Bool.{cond-true, cond-false}
 use Rattle.cost.specs.declared.kind.Cost as cost
@@ -11,11 +11,13 @@ use Rattle.trellis.specs.Parity.{remainder}
 use Rattle.trellis.proofs.Answering as answering
 use Rattle.trellis.proofs.Survivors.{answer_length}
 use Rattle.link.specs.declared.format.Format.{Format}
+use Rattle.link.specs.declared.refusal.Group.TheVariants.{Air}
 use Rattle.link.specs.declared.refusal.Refusal.TheVariants.{WrongParity}
 use Rattle.link.specs.declared.report.Answer.TheVariants.{Block}
 use Rattle.link.specs.declared.report.Report.{Report}
 use Rattle.link.specs.Calls.{Decides, Finds, protected, right}
 use Rattle.link.specs.Due.{met_on}
+use Rattle.link.specs.Refusals.{tells}
 use Rattle.link.specs.Rules.{needed, steps}
 
 -- all but the last n of a list turned round
@@ -54,7 +56,8 @@ module _ {C S P L : Type 0} (k : cost.Ghosts C S P) (l : line.Ghosts L) (f : For
   reports block holds = record {
     path = finds.path;
     answered = finds.answered;
-    replied = ap (λ r. Ok (Block r)) finds.told ∙ sym (cond-true (right f finds.path) _ _ holds);
+    told = ap Some finds.told;
+    refused = sym (cond-true (right f finds.path) None (Some (tells 11 Air 0)) holds);
     wrote = ap (λ bits. bits ++ drop f.message block) (front_bits f paths finds.path finds.traced f.message (omega arith))
         ∙ sym (cond-true (right f finds.path) _ _ holds);
   }
@@ -64,6 +67,7 @@ module _ {C S P L : Type 0} (k : cost.Ghosts C S P) (l : line.Ghosts L) (f : For
   refuses block fails = record {
     path = finds.path;
     answered = finds.answered;
-    replied = ap (λ r. Err (WrongParity r)) finds.told ∙ sym (cond-false (right f finds.path) _ _ fails);
+    told = ap Some finds.told;
+    refused = sym (cond-false (right f finds.path) None (Some (tells 11 Air 0)) fails);
     wrote = sym (cond-false (right f finds.path) _ _ fails);
   }

@@ -5,6 +5,7 @@ pub mod FirstRule
 pub mod Judging
 pub mod KeptBursts
 pub mod Laying
+pub mod Parity
 pub mod Replies
 pub mod Rings
 pub mod Soundness

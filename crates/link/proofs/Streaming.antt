@@ -1,6 +1,5 @@
 -- Every history of a sender is sound: the ring keeps the bits of the last blocks, so each burst carries those of the blocks that it is due to.
-use Rattle.std.proofs.Common.{◌≡◌, ℕ, ◌+◌, ◌-◌, ◌*◌, ◌%◌, ◌<◌, ◌≤◌, Bool, true, false, ◌&&◌, leb, List, [], ◌∷◌, ◌++◌, map, length, get_or, take, drop, Some, None, Ok, Err, Option, sym, refl, ap, ◌∙◌, subst, inl, inr, mod-lt, arith}
-use Rattle.std.specs.declared.convert.Infallible.{Infallible}
+use Rattle.std.proofs.Common.{◌≡◌, ℕ, ◌+◌, ◌-◌, ◌*◌, ◌%◌, ◌<◌, ◌≤◌, Bool, true, false, cond, ◌&&◌, leb, List, [], ◌∷◌, ◌++◌, map, length, get_or, take, drop, Some, None, Ok, Err, Option, sym, refl, ap, ◌∙◌, subst, inl, inr, mod-lt, arith}
 use Rattle.std.proofs.Math.Seq.{take-append_seam}
 use Rattle.std.proofs.lemmas.Bool.{cases_eq, cases_lt, eqb-true, leb-true, le-leb, lt-leb}
 use Rattle.std.proofs.lemmas.List.{ext_get_or, get_or_append_left, get_or_push, length-map, length_push}
@@ -10,14 +9,19 @@ use Rattle.trellis.specs.Bits.{odd, xor, bit_of}
 use Rattle.trellis.specs.Coding.{coded_bit}
 use Rattle.trellis.proofs.Bitwise.{xor_none}
 use Rattle.link.specs.declared.format.Format.{Format}
-use Rattle.link.specs.declared.refusal.Refusal.{Refusal}
 use Rattle.link.specs.declared.sender.Sender.{Sender}
 use Rattle.link.specs.Due.{burst_of, cell, stored}
+use Rattle.link.specs.Refusals.{Told, refusal}
 use Rattle.link.specs.Rules.{first, send_rules}
 use Rattle.link.specs.Sending.{SenderMemory, sender_sizes, SendReply, run_of, carried, BlockByPlace, BurstFromRing, Sent, SendsBy}
-use Rattle.link.specs.Streams.{sending, Stream, begun, sends, BurstOf, StreamOf, StreamSound, AllStreams}
-use Rattle.link.proofs.FirstRule.{first_none, unless_none}
+use Rattle.link.specs.Streams.{accepted, sending, Stream, begun, sends, BurstOf, StreamOf, StreamSound, AllStreams}
+use Rattle.link.proofs.FirstRule.{first_none, unless_none, some_none}
 use Rattle.link.proofs.Rings.{stored_own, stored_other}
+
+-- a send that is refused is not accepted
+refused_accepted : (reply : SendReply) (t : Told) → refusal reply ≡ Some t → accepted reply ≡ false
+refused_accepted (Ok n) t e = absurd (some_none (sym e))
+refused_accepted (Err x) t e = refl
 
 -- a bit's byte is read as the bit
 read_bit : (x : Bool) → leb 1 (bit_of x) ≡ x
@@ -110,15 +114,15 @@ module _ {L : Type 0} {l : line.Ghosts L} (laws : Laws l) (f : Format L) (lays :
     puts : StreamOf l f messages bursts
 
   -- where no rule of a send is broken, the ring has room for the blocks
-  room : (g : Format L) (m : SenderMemory) (counted : ℕ) (message : List ℕ) → first (send_rules {B = Infallible} g (sender_sizes m) counted message) ≡ None →
+  room : (g : Format L) (m : SenderMemory) (counted : ℕ) (message : List ℕ) → first (send_rules g (sender_sizes m) counted message) ≡ None →
       g.depth * g.burst ≤ length m.ring
-  room g m counted message e = leb-true (g.depth * g.burst) (length m.ring) (unless_none _ _ (first_none (send_rules {B = Infallible} g (sender_sizes m) counted message) e).0)
+  room g m counted message e = leb-true (g.depth * g.burst) (length m.ring) (unless_none _ _ (first_none (send_rules g (sender_sizes m) counted message) e).0)
 
   -- and the message is as long as the format has it
-  long : (g : Format L) (m : SenderMemory) (counted : ℕ) (message : List ℕ) → first (send_rules {B = Infallible} g (sender_sizes m) counted message) ≡ None →
+  long : (g : Format L) (m : SenderMemory) (counted : ℕ) (message : List ℕ) → first (send_rules g (sender_sizes m) counted message) ≡ None →
       length (map odd message) ≡ g.message
   long g m counted message e =
-      length-map message odd ∙ eqb-true (length message) g.message (unless_none _ _ (first_none (send_rules {B = Infallible} g (sender_sizes m) counted message) e).1.1.1.0)
+      length-map message odd ∙ eqb-true (length message) g.message (unless_none _ _ (first_none (send_rules g (sender_sizes m) counted message) e).1.1.1.0)
 
   -- one send
   module _ (s s' : Sender L) (message : List ℕ) (m m' : SenderMemory) (reply : SendReply) (messages : List (List Bool)) (bursts : List (List ℕ))
@@ -130,7 +134,7 @@ module _ {L : Type 0} {l : line.Ghosts L} (laws : Laws l) (f : Format L) (lays :
     many : length messages' ≡ length messages + 1
     many = length_push messages (map odd message)
 
-    module _ (none : first (send_rules {B = Infallible} s.format (sender_sizes m) s.counted message) ≡ None) (sent : Sent l message s m reply s' m') where
+    module _ (none : first (send_rules s.format (sender_sizes m) s.counted message) ≡ None) (sent : Sent l message s m reply s' m') where
       -- the ring keeps its block
       kept : KeepsBlocks m'.ring messages'
       kept =
@@ -185,26 +189,26 @@ module _ {L : Type 0} {l : line.Ghosts L} (laws : Laws l) (f : Format L) (lays :
       }
 
     -- a send keeps the invariant
-    sends_invariant : (rules : Option (Refusal Infallible)) → first (send_rules s.format (sender_sizes m) s.counted message) ≡ rules →
+    sends_invariant : (rules : Option Told) → first (send_rules s.format (sender_sizes m) s.counted message) ≡ rules →
         SendsBy l rules message s m reply s' m' →
         Invariant s' m'.ring (sending reply (map odd message) messages) (sending reply (take s.format.burst m'.burst) bursts)
-    sends_invariant (Some x) is refused =
-        subst (λ r. Invariant s' m'.ring (sending r (map odd message) messages) (sending r (take s.format.burst m'.burst) bursts)) (sym refused.replied)
+    sends_invariant (Some t) is refused =
+        subst (λ sent. Invariant s' m'.ring (cond sent messages' messages) (cond sent (bursts ++ (take s.format.burst m'.burst ∷ [])) bursts)) (sym (refused_accepted reply t refused.replied))
         (subst (λ y. Invariant y m'.ring messages bursts) (sym refused.sender) (subst (λ y. Invariant s y.ring messages bursts) (sym refused.memory) before))
     sends_invariant None is sent =
         subst (λ r. Invariant s' m'.ring (sending r (map odd message) messages) (sending r (take s.format.burst m'.burst) bursts)) (sym sent.replied)
         (sent_invariant is sent)
 
     -- and does what is claimed
-    sends_sound : (rules : Option (Refusal Infallible)) → first (send_rules s.format (sender_sizes m) s.counted message) ≡ rules →
+    sends_sound : (rules : Option Told) → first (send_rules s.format (sender_sizes m) s.counted message) ≡ rules →
         SendsBy l rules message s m reply s' m' →
         StreamSound l f rules message messages s m reply s' m'
-    sends_sound (Some x) is refused = record {
-      refused = λ y e. let same : x ≡ y = cc in (refused.replied ∙ ap Err same, refused.sender, refused.memory);
-      sends = λ e. absurd (let z : ◌≡◌ {A = ℕ} 0 1 = cc in omega arith);
+    sends_sound (Some t) is refused = record {
+      refused = λ u e. (refused.replied ∙ e, refused.sender, refused.memory);
+      sends = λ e. absurd (some_none e);
     }
     sends_sound None is sent = record {
-      refused = λ y e. absurd (let z : ◌≡◌ {A = ℕ} 0 1 = cc in omega arith);
+      refused = λ u e. absurd (some_none (sym e));
       sends = λ e. (sent.replied ∙ ap Ok before.counted, (sent.burst, this_burst is sent, sent.put));
     }
 

@@ -1,9 +1,10 @@
 -- What each call of a receiver does with the receiver and with the memory lent to it.
-use Rattle.std.specs.Prelude.{◌≡◌, ℕ, ◌+◌, ◌-◌, ◌<◌, ◌≤◌, Bool, cond, ◌||◌, List, ◌++◌, map, reverse, length, take, drop, replicate, Some, None, Ok, Err, Option, Result, ◌==◌}
+use Rattle.std.specs.Prelude.{◌≡◌, ℕ, ◌+◌, ◌-◌, ◌<◌, ◌≤◌, Bool, cond, ◌||◌, List, ◌++◌, map, reverse, length, take, drop, replicate, Some, None, Ok, Option, Result, ◌==◌}
 use Rattle.cost.specs.declared.kind.Cost as cost
 use Rattle.line.specs.declared.laying.Line as line
 use Rattle.trellis.specs.Bits.{bit_of}
 use Rattle.trellis.specs.Codes.{rows_of}
+use Rattle.trellis.specs.Decoding.{Freed}
 use Rattle.trellis.specs.Parity.{remainder}
 use Rattle.trellis.specs.Paths.{cost_of}
 use Rattle.trellis.specs.Rule.{answer}
@@ -11,12 +12,13 @@ use Rattle.link.specs.declared.format.Format.{Format}
 use Rattle.link.specs.declared.memory.Memory as memory
 use Rattle.link.specs.declared.memory.Sizes.{Sizes}
 use Rattle.link.specs.declared.receiver.Receiver.{Receiver}
+use Rattle.link.specs.declared.refusal.Group.TheVariants.{Air}
 use Rattle.link.specs.declared.refusal.Refusal.{Refusal}
-use Rattle.link.specs.declared.refusal.Refusal.TheVariants.{WrongParity}
 use Rattle.link.specs.declared.report.Answer.{Answer}
-use Rattle.link.specs.declared.report.Answer.TheVariants.{Waiting, Block}
 use Rattle.link.specs.declared.report.Report.{Report}
 use Rattle.link.specs.Due.{stored, met_on, in_ring, heard_of}
+use Rattle.link.specs.Outcomes.{Outcome, tells_burst, tells_block, reported, outcome}
+use Rattle.link.specs.Refusals.{Told, tells, refusal}
 use Rattle.link.specs.Rules.{first, steps, hear_rules, miss_rules, stolen_rules}
 
 -- the memory lent to a call: the ring, the cost cells, the path record and the block memory
@@ -66,37 +68,48 @@ module _ {C S P L : Type 0} (k : cost.Ghosts C S P) (l : line.Ghosts L) where
     abbrev pub answer_due : Option (List Bool)
     answer_due = answer k (rows_of f.code) (met_on l f.line due) f.code.memory (steps f)
 
-    abbrev pub report_of : ℕ → List Bool → Report C S P
-    report_of b path = record { block = b; cost = cost_due path; heard = heard_of k due f.burst }
+    -- what is told of block b where that path is its answer: the path's own cost, and how many of the samples due were heard
+    abbrev pub told_of : ℕ → List Bool → Outcome C
+    told_of b path = tells_block b (cost_due path) (heard_of k due f.burst)
 
     -- the rule's answer is found: what is told of it, and its bits at the front of the path record
     pub record Finds (b : ℕ) (report : Report C S P) (paths : List ℕ) : Type 0 where
       pub path : List Bool
       pub answered : answer_due ≡ Some path
-      pub told : report ≡ report_of b path
+      pub told : reported report ≡ told_of b path
       pub traced : take (steps f) paths ≡ map bit_of (reverse path)
 
-    -- block b is decided: the rule's answer is reported, or refused where its parity is wrong
+    -- block b is decided: the rule's answer is told, and it is refused where its parity is wrong
     pub record Decides (b : ℕ) (block : List ℕ) (reply : Reply) (block' : List ℕ) : Type 0 where
       pub path : List Bool
       pub answered : answer_due ≡ Some path
-      pub replied : reply ≡ cond (right f path) (Ok (Block (report_of b path))) (Err (WrongParity (report_of b path)))
+      pub told : outcome reply ≡ Some (told_of b path)
+      pub refused : refusal reply ≡ cond (right f path) None (Some (tells 11 Air 0))
       pub wrote : block' ≡ cond (right f path) (written f path block) block
 
   -- a call is refused, and changes nothing
-  pub record Refuses (x : Refusal (Report C S P)) (r : Receiver C L S P) (m : Memory S P) (reply : Reply) (r' : Receiver C L S P) (m' : Memory S P) : Type 0 where
-    pub replied : reply ≡ Err x
+  pub record Refuses (t : Told) (r : Receiver C L S P) (m : Memory S P) (reply : Reply) (r' : Receiver C L S P) (m' : Memory S P) : Type 0 where
+    pub replied : refusal reply ≡ Some t
     pub receiver : r' ≡ r
     pub memory : m' ≡ m
+
+  -- burst n is told, and nothing of the memory but the ring is touched
+  pub record Waits (n : ℕ) (m : Memory S P) (reply : Reply) (m' : Memory S P) : Type 0 where
+    pub told : outcome reply ≡ Some (tells_burst n)
+    pub accepted : refusal reply ≡ None
+    pub costs : m'.costs ≡ m.costs
+    pub paths : m'.paths ≡ m.paths
+    pub block : m'.block ≡ m.block
 
   -- a burst that lies in the ring is counted, and the block whose last burst it is decided
   pub record Counts (r : Receiver C L S P) (m : Memory S P) (reply : Reply) (r' : Receiver C L S P) (m' : Memory S P) : Type 0 where
     pub format : r'.format ≡ r.format
     pub counted : r'.counted ≡ r.counted + 1
-    pub waits : r.counted + 1 < r.format.depth →
-        (reply ≡ Ok (Waiting r.counted)) × (m'.costs ≡ m.costs) × (m'.paths ≡ m.paths) × (m'.block ≡ m.block)
+    pub waits : r.counted + 1 < r.format.depth → Waits r.counted m reply m'
     pub decides : r.format.depth ≤ r.counted + 1 →
         Decides r.format (in_ring k r.format m.ring (r.counted + 1 - r.format.depth)) (r.counted + 1 - r.format.depth) m.block reply m'.block
+    -- what deciding leaves in the cost memory and the path record is free
+    pub frees : r.format.depth ≤ r.counted + 1 → Freed m.costs m'.costs × Freed m.paths m'.paths
 
   -- a burst is taken in: it is stored, and then counted
   pub record Takes (samples : List S) (r : Receiver C L S P) (m : Memory S P) (reply : Reply) (r' : Receiver C L S P) (m' : Memory S P) : Type 0 where
@@ -104,8 +117,8 @@ module _ {C S P L : Type 0} (k : cost.Ghosts C S P) (l : line.Ghosts L) where
     pub counts : Counts r (record m { ring = m'.ring }) reply r' m'
 
   -- by the first rule that is broken
-  abbrev pub Judges : Option (Refusal (Report C S P)) → List S → Receiver C L S P → Memory S P → Reply → Receiver C L S P → Memory S P → Type 0
-  Judges (Some x) samples = Refuses x
+  abbrev pub Judges : Option Told → List S → Receiver C L S P → Memory S P → Reply → Receiver C L S P → Memory S P → Type 0
+  Judges (Some t) samples = Refuses t
   Judges None samples = Takes samples
 
   abbrev pub Hears : List S → Receiver C L S P → Memory S P → Reply → Receiver C L S P → Memory S P → Type 0
@@ -118,13 +131,10 @@ module _ {C S P L : Type 0} (k : cost.Ghosts C S P) (l : line.Ghosts L) where
   abbrev pub Misses : Receiver C L S P → Memory S P → Reply → Receiver C L S P → Memory S P → Type 0
   Misses r m = Judges (first (miss_rules r.format (sizes m) r.counted)) (silence r.format) r m
 
-  abbrev pub counted_or : Option (Refusal (Report C S P)) → ℕ → Result ℕ (Refusal (Report C S P))
-  counted_or (Some x) n = Err x
-  counted_or None n = Ok n
-
-  -- a burst taken for another channel is not counted
+  -- a burst taken for another channel is not counted: the bursts counted are told, where no rule is broken
   pub record Steals (r : Receiver C L S P) (reply : Result ℕ (Refusal (Report C S P))) (r' : Receiver C L S P) : Type 0 where
-    pub replied : reply ≡ counted_or (first (stolen_rules r.format)) r.counted
+    pub refused : refusal reply ≡ first (stolen_rules r.format)
+    pub told : first (stolen_rules r.format) ≡ None → reply ≡ Ok r.counted
     pub receiver : r' ≡ r
 
   pub record Restarts (r r' : Receiver C L S P) : Type 0 where

@@ -1,18 +1,21 @@
 -- Histories of a receiver, and what is claimed of every one of them.
-use Rattle.std.specs.Prelude.{◌≡◌, ℕ, ◌+◌, ◌<◌, Bool, true, false, cond, ◌⊎◌, List, [], ◌∷◌, ◌++◌, reverse, length, replicate, Some, None, Ok, Err, Option, Result, ◌==◌}
+use Rattle.std.specs.Prelude.{◌≡◌, ◌≢◌, ℕ, ◌+◌, ◌<◌, ◌≤◌, Bool, true, false, cond, ◌⊎◌, List, [], ◌∷◌, ◌++◌, map, reverse, length, take, drop, replicate, Some, None, Ok, Err, Option, Result, ◌==◌}
 use Rattle.std.specs.List.{AllByRecursion}
 use Rattle.cost.specs.declared.kind.Cost as cost
 use Rattle.line.specs.declared.laying.Line as line
+use Rattle.trellis.specs.Bits.{bit_of}
+use Rattle.trellis.specs.Decoding.{Freed}
 use Rattle.link.specs.declared.format.Format.{Format}
 use Rattle.link.specs.declared.receiver.Receiver.{Receiver}
+use Rattle.link.specs.declared.refusal.Group.TheVariants.{Host, Air}
 use Rattle.link.specs.declared.refusal.Refusal.{Refusal}
-use Rattle.link.specs.declared.refusal.Refusal.TheVariants.{WrongParity, NotStealable}
-use Rattle.link.specs.declared.report.Answer.TheVariants.{Waiting, Block}
 use Rattle.link.specs.declared.report.Report.{Report}
-use Rattle.link.specs.Calls.{Memory, sizes, right, written, Reply, cost_due, answer_due, report_of, Hears, Misses, Steals, Restarts, silence}
-use Rattle.link.specs.Due.{in_bursts}
-use Rattle.link.specs.Refusals.{told}
+use Rattle.link.specs.Calls.{Memory, sizes, right, Reply, cost_due, answer_due, Hears, Misses, Waits, Steals, Restarts, silence}
+use Rattle.link.specs.Due.{in_bursts, heard_of}
+use Rattle.link.specs.Outcomes.{tells_burst, tells_block, outcome}
+use Rattle.link.specs.Refusals.{Told, tells, told, refusal}
 use Rattle.link.specs.Rules.{first, hear_rules, miss_rules}
+use Rattle.link.specs.Sending.{run_of}
 
 module _ {C S P L : Type 0} (k : cost.Ghosts C S P) (l : line.Ghosts L) where
   -- a hear or miss counts its burst unless it meets a refusal other than that of parity
@@ -43,43 +46,48 @@ module _ {C S P L : Type 0} (k : cost.Ghosts C S P) (l : line.Ghosts L) where
     -- it is the trellis rule's answer
     pub rule : answer_due k l f (in_bursts k f bursts b) ≡ Some path
     -- which is the path of a run of message and parity bits that zeros close
-    pub own : (run : List Bool) × (length run ≡ f.message + f.parity) × (path ≡ replicate f.code.memory false ++ reverse run)
+    pub run : List Bool
+    pub long : length run ≡ f.message + f.parity
+    pub own : path ≡ replicate f.code.memory false ++ reverse run
     -- no run of message and parity bits costs less
-    pub least : (run : List Bool) → length run ≡ f.message + f.parity →
-        k.le (cost_due k l f (in_bursts k f bursts b) path) (cost_due k l f (in_bursts k f bursts b) (replicate f.code.memory false ++ reverse run)) ≡ true
-    -- with parity right it is reported, with its own cost and the count of samples heard, and its message is written
+    pub least : (rival : List Bool) → length rival ≡ f.message + f.parity →
+        k.le (cost_due k l f (in_bursts k f bursts b) path) (cost_due k l f (in_bursts k f bursts b) (replicate f.code.memory false ++ reverse rival)) ≡ true
+    -- the block is told by its number, with the path's own cost and the count of the samples heard
+    pub told : outcome reply ≡ Some (tells_block b (cost_due k l f (in_bursts k f bursts b) path) (heard_of k (in_bursts k f bursts b) f.burst))
+    -- with parity right the run is a message and its parity; it is reported, and the message written
     pub reported : right f path ≡ true →
-        (reply ≡ Ok (Block (report_of k l f (in_bursts k f bursts b) b path))) × (block' ≡ written f path block)
-    -- with parity wrong it is refused, with the same told, and nothing is written
+        (run ≡ run_of f (take f.message run)) × (refusal reply ≡ None) × (block' ≡ map bit_of (take f.message run) ++ drop f.message block)
+    -- with parity wrong it is not; it is refused, and nothing is written
     pub refused : right f path ≡ false →
-        (reply ≡ Err (WrongParity (report_of k l f (in_bursts k f bursts b) b path))) × (block' ≡ block)
+        (run ≢ run_of f (take f.message run)) × (refusal reply ≡ Some (tells 11 Air 0)) × (block' ≡ block)
 
   -- what is claimed of one hear or miss, from the rules that it is held against and the burst that it offers
-  pub record Sound (f : Format L) (rules : Option (Refusal (Report C S P))) (samples : List S) (bursts : List (List S))
+  pub record Sound (f : Format L) (rules : Option Told) (samples : List S) (bursts : List (List S))
       (r : Receiver C L S P) (m : Memory S P) (reply : Reply k l) (r' : Receiver C L S P) (m' : Memory S P) : Type 0 where
     -- refused where a rule is broken, and then nothing has changed
-    pub refused : (x : Refusal (Report C S P)) → rules ≡ Some x → (reply ≡ Err x) × (r' ≡ r) × (m' ≡ m) × (counting reply samples bursts ≡ bursts)
+    pub refused : (t : Told) → rules ≡ Some t → (refusal reply ≡ Some t) × (r' ≡ r) × (m' ≡ m) × (counting reply samples bursts ≡ bursts)
     -- and refused for nothing else, but for parity
-    pub only : (x : Refusal (Report C S P)) → reply ≡ Err x → (rules ≡ Some x) ⊎ ((told x).number ≡ 11)
+    pub only : (t : Told) → refusal reply ≡ Some t → (rules ≡ Some t) ⊎ (t ≡ tells 11 Air 0)
     -- otherwise the burst is counted
     pub accepted : rules ≡ None → counting reply samples bursts ≡ bursts ++ (samples ∷ [])
     -- while the first block's bursts are not all counted, the answer is the burst's number and no other memory is touched
-    pub waits : rules ≡ None → length bursts + 1 < f.depth →
-        (reply ≡ Ok (Waiting (length bursts))) × (m'.costs ≡ m.costs) × (m'.paths ≡ m.paths) × (m'.block ≡ m.block)
+    pub waits : rules ≡ None → length bursts + 1 < f.depth → Waits k l (length bursts) m reply m'
     -- and the answer is to wait at no other time
-    pub waits_only : (burst : ℕ) → reply ≡ Ok (Waiting burst) → (rules ≡ None) × (burst ≡ length bursts) × (length bursts + 1 < f.depth)
+    pub waits_only : (burst : ℕ) → outcome reply ≡ Some (tells_burst burst) → (rules ≡ None) × (burst ≡ length bursts) × (length bursts + 1 < f.depth)
     -- from then on each burst counted ends a block, which is told
     pub decides : rules ≡ None → (b : ℕ) → b + f.depth ≡ length bursts + 1 →
         Best f (bursts ++ (samples ∷ [])) b m.block reply m'.block
+    -- which leaves the cost memory and the path record free
+    pub frees : rules ≡ None → f.depth ≤ length bursts + 1 → Freed m.costs m'.costs × Freed m.paths m'.paths
     -- and no block is told at another time
-    pub timely : (told_of : Report C S P) → (reply ≡ Ok (Block told_of)) ⊎ (reply ≡ Err (WrongParity told_of)) →
-        (rules ≡ None) × (told_of.block + f.depth ≡ length bursts + 1)
+    pub timely : (b : ℕ) (cost : C) (heard : ℕ) → outcome reply ≡ Some (tells_block b cost heard) → (rules ≡ None) × (b + f.depth ≡ length bursts + 1)
 
   -- each is a whole burst of fit samples
   abbrev pub WholeBursts : Format L → List (List S) → Type 0
   WholeBursts f bursts = AllByRecursion (λ burst. (length burst ≡ f.burst) × AllByRecursion (λ s. k.fit s ≡ true) burst) bursts
 
-  -- every history of a receiver that was opened is sound, whatever call comes next
+  -- Every history of a receiver that was opened is sound, whatever call comes next. It is claimed for every kind that has the laws; one of them
+  -- asks that as many costs as there are windows fit in memory, and no type that a machine can hold breaks it.
   pub record AllSound (opened : Receiver C L S P) : Type 0 where
     pub hears : (r r' : Receiver C L S P) (bursts : List (List S)) (samples : List S) (m m' : Memory S P) (reply : Reply k l) →
         History opened r m.ring bursts → Hears k l samples r m reply r' m' →
@@ -90,7 +98,8 @@ module _ {C S P L : Type 0} (k : cost.Ghosts C S P) (l : line.Ghosts L) where
     -- stolen counts nothing, tells how many bursts are counted, and is refused at depth 1
     pub steals : (r r' : Receiver C L S P) (ring : List S) (bursts : List (List S)) (reply : Result ℕ (Refusal (Report C S P))) →
         History opened r ring bursts → Steals k l r reply r' →
-        (r' ≡ r) × (reply ≡ cond (opened.format.depth == 1) (Err NotStealable) (Ok (length bursts)))
+        (r' ≡ r) × (refusal reply ≡ cond (opened.format.depth == 1) (Some (tells 8 Host 0)) None)
+        × (opened.format.depth ≢ 1 → reply ≡ Ok (length bursts))
     -- restart keeps the format
     pub restarts : (r r' : Receiver C L S P) (ring : List S) (bursts : List (List S)) →
         History opened r ring bursts → Restarts k l r r' → (r'.format ≡ opened.format) × (r'.counted ≡ 0)

@@ -3,6 +3,7 @@ pub mod Calls
 pub mod Due
 pub mod Histories
 pub mod Opening
+pub mod Outcomes
 pub mod Refusals
 pub mod Rules
 pub mod Sending

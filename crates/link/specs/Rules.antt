@@ -1,5 +1,6 @@
--- The rules that a call is held against. They stand in the order of their numbers, and the first that is broken refuses the call.
-use Rattle.std.specs.Prelude.{ℕ, suc, ◌≤◌, ◌+◌, ◌*◌, ◌^◌, Bool, cond, not, ◌&&◌, ◌||◌, List, [], ◌∷◌, ◌++◌, length, Some, None, Ok, Err, Option, Result, ◌==◌, nat_le, nat_lt}
+-- The rules that a call is held against, each by what it tells where it is broken. They stand in the order of their numbers, and the first that
+-- is broken refuses the call.
+use Rattle.std.specs.Prelude.{ℕ, suc, ◌≤◌, ◌+◌, ◌*◌, ◌^◌, Bool, cond, not, ◌&&◌, ◌||◌, List, [], ◌∷◌, ◌++◌, length, Some, None, Option, ◌==◌, nat_le, nat_lt}
 use Rattle.cost.specs.declared.kind.Cost as cost
 use Rattle.line.specs.declared.laying.Line as line
 use Rattle.trellis.specs.Codes.{sound}
@@ -8,9 +9,8 @@ use Rattle.link.specs.declared.format.Format.{Format}
 use Rattle.link.specs.declared.memory.SenderSizes.{SenderSizes}
 use Rattle.link.specs.declared.memory.Sizes.{Sizes}
 use Rattle.link.specs.declared.proposal.Proposal.{Proposal}
-use Rattle.link.specs.declared.refusal.Refusal.{Refusal}
-use Rattle.link.specs.declared.report.Report.{Report}
-use Rattle.link.specs.declared.refusal.Refusal.TheVariants.{UnsoundCode, BadLengths, UnsuitedLine, ShortMemory, CountFull, NotStealable, WrongLength, BadBit, WrongCount, UnfitSample}
+use Rattle.link.specs.declared.refusal.Group.TheVariants.{Installer, Host, Radio}
+use Rattle.link.specs.Refusals.{Told, tells}
 
 -- the first of some, if any
 abbrev pub first : {X : Type 0} → List (Option X) → Option X
@@ -18,14 +18,9 @@ first [] = None
 first (Some x ∷ xs) = Some x
 first (None ∷ xs) = first xs
 
--- a rule refuses where it is broken
+-- a rule tells something where it is broken
 abbrev pub unless : {X : Type 0} → Bool → X → Option X
-unless holds refusal = cond holds None (Some refusal)
-
--- what a check answers: the first refusal, or nothing
-abbrev pub passed : {X : Type 0} → Option X → Result (Unit {0}) X
-passed None = Ok tt
-passed (Some x) = Err x
+unless holds x = cond holds None (Some x)
 
 -- protected bits, and the closing zeros
 abbrev pub steps_of : Code → ℕ → ℕ → ℕ
@@ -42,11 +37,11 @@ lengths_suit message parity depth =
 abbrev pub line_suits : {L : Type 0} → line.Ghosts L → L → ℕ → Bool
 line_suits l x coded = l.suited x && (between 1 2048 (l.coded x) && (between 1 1024 (l.sent x) && l.coded x == coded))
 
-abbrev pub open_rules : {B L : Type 0} → line.Ghosts L → Proposal L → List (Option (Refusal B))
+abbrev pub open_rules : {L : Type 0} → line.Ghosts L → Proposal L → List (Option Told)
 open_rules l a =
-    unless (sound a.code) UnsoundCode
-    ∷ unless (lengths_suit a.message a.parity a.depth) BadLengths
-    ∷ unless (line_suits l a.line (a.code.rows * steps_of a.code a.message a.parity)) UnsuitedLine
+    unless (sound a.code) (tells 1 Installer 0)
+    ∷ unless (lengths_suit a.message a.parity a.depth) (tells 2 Installer 0)
+    ∷ unless (line_suits l a.line (a.code.rows * steps_of a.code a.message a.parity)) (tells 3 Installer 0)
     ∷ []
 
 abbrev pub steps : {L : Type 0} → Format L → ℕ
@@ -75,26 +70,29 @@ pub record Suffices {L : Type 0} (f : Format L) (cells record_bytes block_bytes 
   pub paths : (needed f).paths ≤ record_bytes
   pub block : (needed f).block ≤ block_bytes
 
-module _ {B : Type 0} where
-  -- a memory of the size needed
-  abbrev pub enough : ℕ → ℕ → Option (Refusal B)
-  enough size lent = unless (nat_le size lent) (ShortMemory size)
+-- a memory of the size needed; the detail is that size
+abbrev pub enough : ℕ → ℕ → Option Told
+enough size lent = unless (nat_le size lent) (tells 4 Host size)
 
-  -- a million bursts are the most that are counted
-  abbrev pub room : ℕ → Option (Refusal B)
-  room counted = unless (nat_lt counted 1000000) CountFull
+-- a million bursts are the most that are counted
+abbrev pub room : ℕ → Option Told
+room counted = unless (nat_lt counted 1000000) (tells 5 Host 0)
 
-  -- all are such, or the first that is not is refused by its place
-  abbrev pub all_such : {S : Type 0} → (S → Bool) → (ℕ → Refusal B) → ℕ → List S → Option (Refusal B)
-  all_such such refusal place [] = None
-  all_such such refusal place (s ∷ ss) = cond (such s) (all_such such refusal (suc place) ss) (Some (refusal place))
+-- all are such, or the first that is not is told by its place
+abbrev pub all_such : {S : Type 0} → (S → Bool) → (ℕ → Told) → ℕ → List S → Option Told
+all_such such by_place place [] = None
+all_such such by_place place (s ∷ ss) = cond (such s) (all_such such by_place (suc place) ss) (Some (by_place place))
 
--- every sample is fit, or the first that is not is refused
-abbrev pub all_fit : {C S P : Type 0} → cost.Ghosts C S P → ℕ → List S → Option (Refusal (Report C S P))
-all_fit k = all_such k.fit UnfitSample
+-- every sample from a place on is fit, or the detail is the place of the first that is not
+abbrev pub all_fit : {C S P : Type 0} → cost.Ghosts C S P → ℕ → List S → Option Told
+all_fit k = all_such k.fit (tells 7 Radio)
 
-module _ {B L : Type 0} where
-  abbrev pub memory_rules : Format L → Sizes → List (Option (Refusal B))
+-- every byte from a place on is a bit, or the detail is the place of the first that is not
+abbrev pub all_bits : ℕ → List ℕ → Option Told
+all_bits = all_such is_bit (tells 10 Host)
+
+module _ {L : Type 0} where
+  abbrev pub memory_rules : Format L → Sizes → List (Option Told)
   memory_rules f lent =
       enough (needed f).ring lent.ring
       ∷ enough (needed f).costs lent.costs
@@ -102,27 +100,28 @@ module _ {B L : Type 0} where
       ∷ enough (needed f).block lent.block
       ∷ []
 
-  abbrev pub miss_rules : Format L → Sizes → ℕ → List (Option (Refusal B))
+  abbrev pub miss_rules : Format L → Sizes → ℕ → List (Option Told)
   miss_rules f lent counted = memory_rules f lent ++ (room counted ∷ [])
 
   -- a burst can be stolen only where several carry a block
-  abbrev pub stolen_rules : Format L → List (Option (Refusal B))
-  stolen_rules f = unless (not (f.depth == 1)) NotStealable ∷ []
+  abbrev pub stolen_rules : Format L → List (Option Told)
+  stolen_rules f = unless (not (f.depth == 1)) (tells 8 Host 0) ∷ []
 
   -- a message is the format's length long, and each of its bytes a bit
-  abbrev pub send_rules : Format L → SenderSizes → ℕ → List ℕ → List (Option (Refusal B))
+  abbrev pub send_rules : Format L → SenderSizes → ℕ → List ℕ → List (Option Told)
   send_rules f lent counted message =
       enough (sender_needs f).ring lent.ring
       ∷ enough (sender_needs f).burst lent.burst
       ∷ room counted
-      ∷ unless (length message == f.message) WrongLength
-      ∷ all_such is_bit BadBit 0 message
+      ∷ unless (length message == f.message) (tells 9 Host 0)
+      ∷ all_bits 0 message
       ∷ []
 
-abbrev pub hear_rules : {C S P L : Type 0} → cost.Ghosts C S P → Format L → Sizes → ℕ → List S → List (Option (Refusal (Report C S P)))
+-- a burst has one sample for each of its places, or the detail is how many were given; and each is fit
+abbrev pub hear_rules : {C S P L : Type 0} → cost.Ghosts C S P → Format L → Sizes → ℕ → List S → List (Option Told)
 hear_rules k f lent counted samples =
     memory_rules f lent
     ++ (room counted
-    ∷ unless (length samples == f.burst) (WrongCount (length samples))
+    ∷ unless (length samples == f.burst) (tells 6 Radio (length samples))
     ∷ all_fit k 0 samples
     ∷ [])

@@ -1,5 +1,5 @@
 -- What a send does with the sender and with the memory lent to it.
-use Rattle.std.specs.Prelude.{◌≡◌, ℕ, ◌+◌, ◌-◌, ◌%◌, ◌<◌, Bool, ◌&&◌, List, map, length, Some, None, Ok, Err, Option, Result, nat_le, slice_index_or}
+use Rattle.std.specs.Prelude.{◌≡◌, ℕ, ◌+◌, ◌-◌, ◌%◌, ◌<◌, Bool, ◌&&◌, List, map, length, Some, None, Ok, Option, Result, nat_le, slice_index_or}
 use Rattle.std.specs.declared.convert.Infallible.{Infallible}
 use Rattle.line.specs.declared.laying.Line as line
 use Rattle.trellis.specs.Bits.{odd, xor, bit_of}
@@ -10,6 +10,7 @@ use Rattle.link.specs.declared.memory.SenderSizes.{SenderSizes}
 use Rattle.link.specs.declared.refusal.Refusal.{Refusal}
 use Rattle.link.specs.declared.sender.Sender.{Sender}
 use Rattle.link.specs.Due.{laid_at, cell, stored}
+use Rattle.link.specs.Refusals.{Told, refusal}
 use Rattle.link.specs.Rules.{first, send_rules}
 
 -- the memory lent to a send: the ring of bits and the burst memory
@@ -49,8 +50,8 @@ module _ {L : Type 0} (l : line.Ghosts L) where
   BurstFromRing f n ring = ByPlace f (λ j k turned. xor turned (carried f ring n k))
 
   -- a send is refused, and changes nothing
-  pub record NotSent (x : Refusal Infallible) (s : Sender L) (m : SenderMemory) (reply : SendReply) (s' : Sender L) (m' : SenderMemory) : Type 0 where
-    pub replied : reply ≡ Err x
+  pub record NotSent (t : Told) (s : Sender L) (m : SenderMemory) (reply : SendReply) (s' : Sender L) (m' : SenderMemory) : Type 0 where
+    pub replied : refusal reply ≡ Some t
     pub sender : s' ≡ s
     pub memory : m' ≡ m
 
@@ -69,8 +70,8 @@ module _ {L : Type 0} (l : line.Ghosts L) where
     pub put : m'.burst ≡ laid_at 0 burst m.burst
 
   -- by the first rule that is broken
-  abbrev pub SendsBy : Option (Refusal Infallible) → List ℕ → Sender L → SenderMemory → SendReply → Sender L → SenderMemory → Type 0
-  SendsBy (Some x) message = NotSent x
+  abbrev pub SendsBy : Option Told → List ℕ → Sender L → SenderMemory → SendReply → Sender L → SenderMemory → Type 0
+  SendsBy (Some t) message = NotSent t
   SendsBy None message = Sent message
 
   abbrev pub Sends : List ℕ → Sender L → SenderMemory → SendReply → Sender L → SenderMemory → Type 0

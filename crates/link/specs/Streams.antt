@@ -1,13 +1,12 @@
 -- Histories of a sender, and what is claimed of every one of them.
 use Rattle.std.specs.Prelude.{◌≡◌, ℕ, ◌<◌, ◌%◌, Bool, true, false, cond, List, [], ◌∷◌, ◌++◌, map, length, take, Some, None, Ok, Err, Option, slice_index_or}
-use Rattle.std.specs.declared.convert.Infallible.{Infallible}
 use Rattle.line.specs.declared.laying.Line as line
 use Rattle.trellis.specs.Bits.{odd, xor, bit_of}
 use Rattle.trellis.specs.Coding.{coded_bit}
 use Rattle.link.specs.declared.format.Format.{Format}
-use Rattle.link.specs.declared.refusal.Refusal.{Refusal}
 use Rattle.link.specs.declared.sender.Sender.{Sender}
 use Rattle.link.specs.Due.{burst_of, laid_at}
+use Rattle.link.specs.Refusals.{Told, refusal}
 use Rattle.link.specs.Rules.{first, send_rules}
 use Rattle.link.specs.Sending.{SenderMemory, sender_sizes, SendReply, run_of, Sends}
 
@@ -48,10 +47,10 @@ module _ {L : Type 0} (l : line.Ghosts L) where
     pub each : (n : ℕ) → n < length messages → BurstOf f messages n (slice_index_or bursts n [])
 
   -- what is claimed of one send, from the rules that it is held against
-  pub record StreamSound (f : Format L) (rules : Option (Refusal Infallible)) (message : List ℕ) (messages : List (List Bool))
+  pub record StreamSound (f : Format L) (rules : Option Told) (message : List ℕ) (messages : List (List Bool))
       (s : Sender L) (m : SenderMemory) (reply : SendReply) (s' : Sender L) (m' : SenderMemory) : Type 0 where
     -- refused where a rule is broken, and then nothing has changed
-    pub refused : (x : Refusal Infallible) → rules ≡ Some x → (reply ≡ Err x) × (s' ≡ s) × (m' ≡ m)
+    pub refused : (t : Told) → rules ≡ Some t → (refusal reply ≡ Some t) × (s' ≡ s) × (m' ≡ m)
     -- otherwise the answer is the burst's number, and the burst of that number is put at the front of the burst memory, of which the rest is left
     pub sends : rules ≡ None → (reply ≡ Ok (length messages))
         × ((burst : List ℕ) × BurstOf f (messages ++ (map odd message ∷ [])) (length messages) burst × (m'.burst ≡ laid_at 0 burst m.burst))

@@ -120,9 +120,9 @@ same_from_sum : (a b : ℕ) → bit_xor a b ≡ 0 → a ≡ b
 same_from_sum a b none =
     sym (xor_zero_r a) ∙ ap (bit_xor a) (sym (xor_self b)) ∙ sym (xor_assoc a b b) ∙ ap (λ x. bit_xor x b) none
 
--- and no other 16 bits after the run make it one
-pub parity_only : (run ending : List Bool) → length ending ≡ 16 → Multiple generator (reverse (run ++ ending)) → ending ≡ parity_of 16 run
-parity_only run ending long whole =
+-- no other 16 bits after the run leave no remainder
+pub closes_only : (run ending : List Bool) → length ending ≡ 16 → remainder (reverse (run ++ ending)) ≡ 0 → ending ≡ parity_of 16 run
+closes_only run ending long leaves =
     let newest = reverse ending in
     let number = packed newest in
     let after = remainder (replicate 16 false ++ reverse run) in
@@ -130,5 +130,9 @@ parity_only run ending long whole =
     let written : bits 16 number ≡ newest = ap (λ n. bits n number) (sym size) ∙ bits_packed newest in
     let below = subst (λ n. number < 2 ^ n) size (packed_below newest) in
     let path : bits 16 number ++ reverse run ≡ reverse (run ++ ending) = ap (λ r. r ++ reverse run) written ∙ sym (reverse-append run ending) in
-    let none : bit_xor number after ≡ 0 = sym (remainder_over 16 number (reverse run) (omega arith) below) ∙ ap remainder path ∙ multiple_remainder (reverse (run ++ ending)) whole in
+    let none : bit_xor number after ≡ 0 = sym (remainder_over 16 number (reverse run) (omega arith) below) ∙ ap remainder path ∙ leaves in
     sym (reverse-reverse ending) ∙ ap reverse (sym written ∙ ap (bits 16) (same_from_sum number after none))
+
+-- so no other 16 bits make it a multiple
+pub parity_only : (run ending : List Bool) → length ending ≡ 16 → Multiple generator (reverse (run ++ ending)) → ending ≡ parity_of 16 run
+parity_only run ending long whole = closes_only run ending long (multiple_remainder (reverse (run ++ ending)) whole)

@@ -1,6 +1,7 @@
 // The checks of hear and miss, in the order of the refusals' numbers.
 ghost use Rattle.std.specs.Prelude.{◌≡◌, ◌*◌, ◌^◌};
-ghost use Rattle.link.specs.Rules.{all_fit, first, hear_rules, memory_rules, miss_rules, needed, passed, steps};
+ghost use Rattle.link.specs.Refusals.{refusal};
+ghost use Rattle.link.specs.Rules.{all_fit, first, hear_rules, memory_rules, miss_rules, needed, steps};
 
 use super::Receiver;
 use crate::checks::{check_count, check_size, unless};
@@ -29,7 +30,7 @@ impl<L: Line> Format<L> {
 
 // In order, with the index, so that the first unfit place is named.
 fn check_fit<C: Cost>(samples: &[C::Sample]) -> Result<(), Refusal<Report<C>>>
-    ensures { result ≡ passed (all_fit C.Cost 0 samples.now) }
+    ensures { refusal result ≡ all_fit C.Cost 0 samples.now }
 {
     for (place, sample) in samples.iter().enumerate() {
         if !C::is_fit(*sample) {
@@ -55,7 +56,7 @@ impl<C: Cost, L: Line> Receiver<C, L> {
 
     // The memory lent, in the order ring, costs, path record, block.
     fn check_memory(&self, lent: Sizes) -> Result<(), Refusal<Report<C>>>
-        ensures { result ≡ passed (first (memory_rules self.now.format lent)) }
+        ensures { refusal result ≡ first (memory_rules self.now.format lent) }
     {
         let needs = self.needs();
         check_size(needs.ring, lent.ring)?;
@@ -65,7 +66,7 @@ impl<C: Cost, L: Line> Receiver<C, L> {
     }
 
     pub(super) fn check_miss(&self, lent: Sizes) -> Result<(), Refusal<Report<C>>>
-        ensures { result ≡ passed (first (miss_rules self.now.format lent self.now.counted)) }
+        ensures { refusal result ≡ first (miss_rules self.now.format lent self.now.counted) }
     {
         self.check_memory(lent)?;
         check_count(self.counted)
@@ -76,7 +77,7 @@ impl<C: Cost, L: Line> Receiver<C, L> {
         samples: &[C::Sample],
         lent: Sizes,
     ) -> Result<(), Refusal<Report<C>>>
-        ensures { result ≡ passed (first (hear_rules C.Cost self.now.format lent self.now.counted samples.now)) }
+        ensures { refusal result ≡ first (hear_rules C.Cost self.now.format lent self.now.counted samples.now) }
     {
         self.check_miss(lent)?;
         let given = samples.len();

@@ -1,7 +1,7 @@
 // The checks of a send, in the order of the refusals' numbers.
 ghost use Rattle.std.specs.Prelude.{◌≡◌};
-ghost use Rattle.link.specs.declared.refusal.Refusal.TheVariants.{BadBit};
-ghost use Rattle.link.specs.Rules.{all_such, first, is_bit, passed, send_rules, sender_needs};
+ghost use Rattle.link.specs.Refusals.{refusal};
+ghost use Rattle.link.specs.Rules.{all_bits, first, send_rules, sender_needs};
 
 use super::Sender;
 use crate::checks::{check_count, check_size, unless};
@@ -12,7 +12,7 @@ use std::convert::Infallible;
 
 // In order, so that the first byte that is no bit is named.
 fn check_bits(message: &[u8]) -> Result<(), Refusal<Infallible>>
-    ensures { result ≡ passed (all_such is_bit BadBit 0 message.now) }
+    ensures { refusal result ≡ all_bits 0 message.now }
 {
     for (place, byte) in message.iter().enumerate() {
         if *byte > 1 {
@@ -39,7 +39,7 @@ impl<L: Line> Sender<L> {
         message: &[u8],
         lent: SenderSizes,
     ) -> Result<(), Refusal<Infallible>>
-        ensures { result ≡ passed (first (send_rules self.now.format lent self.now.counted message.now)) }
+        ensures { refusal result ≡ first (send_rules self.now.format lent self.now.counted message.now) }
     {
         let needs = self.needs();
         check_size(needs.ring, lent.ring)?;

@@ -11,11 +11,12 @@ returns g c =
     let a = c.args.proposal in
     let five : length a.code.taps ≡ 5 = search rules in
     let laws = laws_of g.met.C.Cost in
-    let sound = all_sound laws g.L.Line _ refl in
+    let both = agreed_on g.L.Line a _ five agreed.0 agreed.1 in
+    let sound = all_sound laws g.L.Line _ both.parity refl in
     record {
       rules = agreed.0;
       format = agreed.1;
       counted = refl;
       histories = sound;
-      both_ends = all_as_sent laws (laws_met g.met.L.Line) _ (agreed_on g.L.Line a _ five agreed.0 agreed.1) sound;
+      both_ends = all_as_sent laws (laws_met g.met.L.Line) _ both sound;
     }
