@@ -1,10 +1,9 @@
 -- A block that is heard as it was sent is answered as it was sent.
-use Rattle.std.proofs.Common.{◌≡◌, ℕ, zero, suc, ◌+◌, ◌*◌, ◌%◌, ◌<◌, ◌≤◌, Bool, true, false, ◌||◌, cond, not, eqb, List, [], ◌∷◌, ◌++◌, map, reverse, length, get_or, take, drop, replicate, Some, None, Ok, Err, Option, ◌⊎◌, ◌≢◌, sym, refl, ap, ◌∙◌, subst, ap₂, inl, inr, mod-lt, arith}
+use Rattle.std.proofs.Common.{◌≡◌, ℕ, zero, suc, ◌+◌, ◌*◌, ◌%◌, ◌<◌, ◌≤◌, Bool, true, false, ◌||◌, cond, not, eqb, List, [], ◌∷◌, ◌++◌, map, reverse, length, get_or, drop, replicate, Some, None, Option, ◌⊎◌, ◌≢◌, sym, refl, ap, ◌∙◌, subst, ap₂, inl, inr, mod-lt, arith}
 use Rattle.std.specs.List.{AllByRecursion, range_with_len, count_by}
-use lib.ListN.{length-replicate}
 use lib.Seq.{take_at}
 use Rattle.std.proofs.lemmas.Bool.{and_parts, cases_lt, eqb-true, or_cases}
-use Rattle.std.proofs.lemmas.List.{length-take-le, reverse-append, reverse-reverse, take-append-le}
+use Rattle.std.proofs.lemmas.List.{length-take-le}
 use Rattle.std.proofs.lemmas.List.Sums.{sum_by-cons}
 use Rattle.cost.specs.declared.kind.Cost as cost
 use Rattle.cost.specs.Samples.{clean}
@@ -15,10 +14,10 @@ use Rattle.trellis.specs.Bits.{odd, xor, bit_of}
 use Rattle.trellis.proofs.Clean.{CleanOf, CleanAnswer}
 use Rattle.trellis.specs.Coding.{coded_bit}
 use Rattle.trellis.specs.Codes.{rows_of}
-use Rattle.trellis.specs.Parity.{remainder, parity_of, with_parity}
+use Rattle.trellis.specs.Parity.{parity_of, with_parity}
 use Rattle.trellis.proofs.Bitwise.{odd_bit, xor_comm}
 use Rattle.trellis.proofs.Cleans.{heard_clean}
-use Rattle.trellis.proofs.Parities.{with_parity_length, parity_closes}
+use Rattle.trellis.proofs.Parities.{with_parity_length}
 use Rattle.trellis.proofs.Soundness.{sound_parts}
 use Rattle.link.specs.declared.format.Format.{Format}
 use Rattle.link.specs.declared.proposal.Proposal.{Proposal}

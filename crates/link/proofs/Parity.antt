@@ -1,12 +1,12 @@
 -- Parity is right exactly where the run that was found is a message and its parity.
-use Rattle.std.proofs.Common.{◌≡◌, ◌≢◌, ℕ, ◌+◌, ◌≤◌, Bool, true, false, ◌||◌, eqb, ◌⊎◌, List, ◌++◌, map, reverse, length, take, drop, replicate, sym, refl, ap, ◌∙◌, inl, inr, arith}
+use Rattle.std.proofs.Common.{◌≡◌, ◌≢◌, ℕ, ◌+◌, ◌≤◌, Bool, true, false, ◌||◌, eqb, ◌⊎◌, List, ◌++◌, map, reverse, length, take, drop, replicate, sym, ap, ◌∙◌, inl, inr, arith}
 use lib.ListN.{length-replicate}
 use lib.Seq.{drop_at}
 use Rattle.std.proofs.Math.Bool.{or-true}
 use Rattle.std.proofs.lemmas.Bool.{both_ways, eqb-true}
 use Rattle.std.proofs.lemmas.List.{append-nil, length-drop, reverse-append, reverse-reverse, take-append-drop, take-append-le, take_all}
 use Rattle.trellis.specs.Bits.{bit_of}
-use Rattle.trellis.specs.Parity.{remainder, parity_of, with_parity}
+use Rattle.trellis.specs.Parity.{remainder, with_parity}
 use Rattle.trellis.proofs.Divisions.{closes_only}
 use Rattle.trellis.proofs.Parities.{parity_closes}
 use Rattle.link.specs.declared.format.Format.{Format}

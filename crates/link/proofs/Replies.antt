@@ -1,5 +1,5 @@
 -- What a call that takes a burst in replies: that it waits, or the block that the burst ends, with its parity right or wrong.
-use Rattle.std.proofs.Common.{◌≡◌, ℕ, ◌+◌, ◌-◌, ◌<◌, ◌≤◌, Bool, true, false, eqb, cond, ◌⊎◌, List, [], ◌∷◌, ◌++◌, length, Some, None, Ok, Err, sym, refl, ap, ◌∙◌, subst, inl, inr, arith}
+use Rattle.std.proofs.Common.{◌≡◌, ℕ, ◌+◌, ◌-◌, ◌<◌, ◌≤◌, true, false, eqb, ◌⊎◌, List, [], ◌∷◌, ◌++◌, length, Some, None, Ok, Err, sym, refl, ap, ◌∙◌, subst, inl, inr, arith}
 use Rattle.std.proofs.lemmas.List.{length_push}
 use Rattle.std.proofs.lemmas.Bool.{both_ways, cases_lt, cases_Bool, cond-true, cond-false}
 use Rattle.cost.specs.declared.kind.Cost as cost
@@ -10,7 +10,7 @@ use Rattle.link.specs.declared.format.Format.{Format}
 use Rattle.link.specs.declared.receiver.Receiver.{Receiver}
 use Rattle.link.specs.declared.refusal.Group.TheVariants.{Air}
 use Rattle.link.specs.declared.refusal.Refusal.{Refusal}
-use Rattle.link.specs.declared.refusal.Refusal.TheVariants.{UnsoundCode, BadLengths, UnsuitedLine, ShortMemory, CountFull, NotStealable, WrongLength, BadBit, WrongCount, UnfitSample, WrongParity, BadRecord}
+use Rattle.link.specs.declared.refusal.Refusal.TheVariants.{WrongParity}
 use Rattle.link.specs.declared.report.Report.{Report}
 use Rattle.link.specs.Calls.{Memory, right, Reply, cost_due, Decides, Waits, Takes}
 use Rattle.link.specs.Due.{stored, in_ring, heard_of}

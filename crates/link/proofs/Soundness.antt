@@ -1,5 +1,5 @@
 -- Every history of a receiver is sound: each call keeps an invariant, and from the invariant the next call does what is claimed.
-use Rattle.std.proofs.Common.{◌≡◌, ◌≢◌, ℕ, ◌+◌, Bool, true, false, cond, not, eqb, List, [], ◌∷◌, ◌++◌, length, Some, None, Ok, Option, sym, refl, ap, ◌∙◌, subst, inl, inr, arith}
+use Rattle.std.proofs.Common.{◌≡◌, ◌+◌, Bool, true, false, cond, not, eqb, List, [], ◌∷◌, ◌++◌, length, Some, None, Ok, Option, sym, refl, ap, ◌∙◌, subst, inl, inr}
 use Rattle.std.proofs.lemmas.List.{length_push}
 use Rattle.std.proofs.lemmas.Bool.{cond-true, cond-false, ne_eqb}
 use Rattle.cost.specs.declared.kind.Cost as cost
@@ -8,7 +8,7 @@ use Rattle.line.specs.declared.laying.Line as line
 use Rattle.link.specs.declared.format.Format.{Format}
 use Rattle.link.specs.declared.receiver.Receiver.{Receiver}
 use Rattle.link.specs.declared.refusal.Group.TheVariants.{Host}
-use Rattle.link.specs.Calls.{Memory, sizes, Reply, Takes, Judges, Steals, silence}
+use Rattle.link.specs.Calls.{Memory, sizes, Reply, Takes, Judges, silence}
 use Rattle.link.specs.Histories.{counts, counting, History, begun, heard, missed, stole, restarted, Sound, AllSound}
 use Rattle.link.specs.Outcomes.{Outcome, outcome}
 use Rattle.link.specs.Refusals.{Told, tells, refusal}

@@ -4,54 +4,54 @@ ghost use Rattle.link.specs.Due.{met_on, in_ring, heard_of};
 ghost use Rattle.link.specs.Calls.{Finds};
 ghost use Rattle.link.specs.Rules.{needed};
 
-use crate::format::Format;
 use crate::report::Report;
+use crate::ring::Ring;
 use cost::kind::Cost;
 use line::laying::Line;
 use trellis::decide::decide;
 use trellis::received::{Received, weighed};
 
 #[derive(Drop)]
-pub(crate) struct Due<'r, 'f, C: Cost, L: Line> {
-    pub(crate) ring: &'r [C::Sample],
-    pub(crate) format: &'f Format<L>,
+pub(crate) struct Due<'r, 'a, 'f, C: Cost, L: Line> {
+    pub(crate) ring: &'r Ring<'a, 'f, C::Sample, L>,
     pub(crate) block: usize,
 }
 
-impl<'r, 'f, C: Cost, L: Line> Due<'r, 'f, C, L> {
+impl<'r, 'a, 'f, C: Cost, L: Line> Due<'r, 'a, 'f, C, L> {
     // The sample due at a burst place; past the burst there is none.
     pub(crate) fn sample(&self, place: usize) -> C::Sample
-        ensures { result ≡ in_ring C.Cost self.now.format.now self.now.ring.now self.now.block place }
+        ensures { result ≡ in_ring C.Cost self.now.ring.now.format.now self.now.ring.now.cells.now self.now.block place }
     {
-        let depth = self.format.depth;
-        if place >= self.format.burst {
+        let format = self.ring.format;
+        if place >= format.burst {
             return C::NOTHING;
         }
-        let start = self.format.ring_start(self.block % depth + place % depth);
-        match self.ring.get(start + place) {
-            Some(sample) => weighed::<C>(*sample),
+        // The burst's number but for whole rings, so that the sum fits.
+        let burst = self.block % format.depth + place % format.depth;
+        match self.ring.sample(burst, place) {
+            Some(sample) => weighed::<C>(sample),
             None => C::NOTHING,
         }
     }
 
     // How many of the samples due do not mean nothing.
     pub(crate) fn heard(&self) -> usize
-        ensures { result ≡ heard_of C.Cost (in_ring C.Cost self.now.format.now self.now.ring.now self.now.block) self.now.format.now.burst }
+        ensures { result ≡ heard_of C.Cost (in_ring C.Cost self.now.ring.now.format.now self.now.ring.now.cells.now self.now.block) self.now.ring.now.format.now.burst }
     {
-        (0..self.format.burst)
+        (0..self.ring.format.burst)
             .filter(|&place| !C::is_silent(self.sample(place)))
             .count()
     }
 
     // The block that the trellis rule answers; its bits are left at the front of the path record.
     pub(crate) fn best(&self, costs: &mut [Option<C::Plain>], paths: &mut [u8]) -> Report<C>
-        requires costs { (needed self.now.format.now).costs ≤ length costs.old }
-        requires paths { (needed self.now.format.now).paths ≤ length paths.old }
-        ensures { Finds C.Cost L.Line self.now.format.now (in_ring C.Cost self.now.format.now self.now.ring.now self.now.block) self.now.block result paths.new }
+        requires costs { (needed self.now.ring.now.format.now).costs ≤ length costs.old }
+        requires paths { (needed self.now.ring.now.format.now).paths ≤ length paths.old }
+        ensures { Finds C.Cost L.Line self.now.ring.now.format.now (in_ring C.Cost self.now.ring.now.format.now self.now.ring.now.cells.now self.now.block) self.now.block result paths.new }
     {
-        let Some(cost) = decide::<C, Due<'r, 'f, C, L>>(
-            &self.format.code,
-            self.format.steps(),
+        let Some(cost) = decide::<C, Due<'r, 'a, 'f, C, L>>(
+            &self.ring.format.code,
+            self.ring.format.steps(),
             self,
             costs,
             paths,
@@ -67,13 +67,13 @@ impl<'r, 'f, C: Cost, L: Line> Due<'r, 'f, C, L> {
     }
 }
 
-impl<'r, 'f, C: Cost, L: Line> Received for Due<'r, 'f, C, L> {
+impl<'r, 'a, 'f, C: Cost, L: Line> Received for Due<'r, 'a, 'f, C, L> {
     type Sample = C::Sample;
 
-    ghost met = { λ d. met_on L.Line d.format.now.line (in_ring C.Cost d.format.now d.ring.now d.block) };
+    ghost met = { λ d. met_on L.Line d.ring.now.format.now.line (in_ring C.Cost d.ring.now.format.now d.ring.now.cells.now d.block) };
 
     fn met_at(&self, j: usize) -> Option<(C::Sample, bool)> {
-        let (place, turned) = self.format.line.place_of(j)?;
+        let (place, turned) = self.ring.format.line.place_of(j)?;
         Some((self.sample(place), turned))
     }
 }

@@ -1,13 +1,14 @@
 // The ring of the last bursts: sample k of burst n lies in cell (n mod depth) * burst + k.
-ghost use Rattle.std.specs.Prelude.{◌≡◌, ◌+◌, ◌*◌, ◌≤◌, length, replicate};
-ghost use Rattle.link.specs.Due.{cell, stored};
+ghost use Rattle.std.specs.Prelude.{◌≡◌, ◌+◌, ◌*◌, ◌≤◌, length, replicate, slice_index_or, unwrap_or};
+ghost use Rattle.link.specs.Due.{cell, laid_at, stored};
 
 use crate::format::Format;
 
+// A ring over cells that are lent: which of them are a burst's is told here, and what is done to them by functions over the slice.
 #[derive(Drop)]
 pub(crate) struct Ring<'a, 'f, S, L> {
     cells: &'a mut [S],
-    format: &'f Format<L>,
+    pub(crate) format: &'f Format<L>,
 }
 
 impl<L> Format<L> {
@@ -35,6 +36,13 @@ impl<'a, 'f, S: Copy, L> Ring<'a, 'f, S, L> {
         Ring { cells, format }
     }
 
+    // Where burst n begins.
+    fn start(&self, n: usize) -> usize
+        ensures { result ≡ cell self.now.format.now n 0 }
+    {
+        self.format.ring_start(n)
+    }
+
     // Burst n in its cells.
     pub(crate) fn store(&mut self, n: usize, samples: &[S])
         requires whole { length samples.now ≡ self.old.format.now.burst }
@@ -42,39 +50,50 @@ impl<'a, 'f, S: Copy, L> Ring<'a, 'f, S, L> {
         ensures cells { self.new.cells.now ≡ stored self.old.format.now n samples.now self.old.cells.now }
         ensures same { self.new.cells.ghost_name ≡ self.old.cells.ghost_name }
     {
-        let at = self.format.ring_start(n);
-        self.cells[at..at + samples.len()].copy_from_slice(samples);
+        let at = self.start(n);
+        lay(samples, at, self.cells);
     }
 
-    // Burst n as one whose samples are all the same. `fill` would ask for a clone that cannot fail, and Copy does not promise one.
+    // Burst n as one whose samples are all the same.
     pub(crate) fn store_same(&mut self, n: usize, sample: S)
         requires { self.old.format.now.depth * self.old.format.now.burst ≤ length self.old.cells.now }
         ensures cells { self.new.cells.now ≡ stored self.old.format.now n (replicate self.old.format.now.burst sample) self.old.cells.now }
         ensures same { self.new.cells.ghost_name ≡ self.old.cells.ghost_name }
     {
-        let at = self.format.ring_start(n);
-        let burst = self.format.burst;
-        let part = &mut self.cells[at..at + burst];
-        for cell in part.iter_mut() {
-            *cell = sample;
-        }
+        let at = self.start(n);
+        lay_same(sample, self.format.burst, at, self.cells);
+    }
+
+    // Sample k of burst n, if the ring reaches so far.
+    pub(crate) fn sample(&self, n: usize, k: usize) -> Option<S>
+        ensures { (past : S) → unwrap_or result past ≡ slice_index_or self.now.cells.now (cell self.now.format.now n k) past }
+    {
+        read(self.start(n), k, self.cells)
     }
 }
 
-// Stores burst n in its cells of the ring. A function of its own, as the next: where hear itself makes the ring, a proof does not learn
-// that the memory's part holds what the ring's cells held last.
-pub(crate) fn store<S: Copy, L>(format: &Format<L>, n: usize, samples: &[S], ring: &mut [S])
-    requires whole { length samples.now ≡ format.now.burst }
-    requires room { format.now.depth * format.now.burst ≤ length ring.old }
-    ensures { ring.new ≡ stored format.now n samples.now ring.old }
+// Lays samples over the cells, from a place on.
+fn lay<S: Copy>(samples: &[S], at: usize, cells: &mut [S])
+    requires { at + length samples.now ≤ length cells.old }
+    ensures { cells.new ≡ laid_at at samples.now cells.old }
 {
-    Ring::new(ring, format).store(n, samples);
+    cells[at..at + samples.len()].copy_from_slice(samples);
 }
 
-// Stores burst n as one whose samples are all the same.
-pub(crate) fn store_same<S: Copy, L>(format: &Format<L>, n: usize, sample: S, ring: &mut [S])
-    requires { format.now.depth * format.now.burst ≤ length ring.old }
-    ensures { ring.new ≡ stored format.now n (replicate format.now.burst sample) ring.old }
+// Lays so many times the same sample. `fill` would ask for a clone that cannot fail, and Copy does not promise one.
+fn lay_same<S: Copy>(sample: S, count: usize, at: usize, cells: &mut [S])
+    requires { at + count ≤ length cells.old }
+    ensures { cells.new ≡ laid_at at (replicate count sample) cells.old }
 {
-    Ring::new(ring, format).store_same(n, sample);
+    let part = &mut cells[at..at + count];
+    for cell in part.iter_mut() {
+        *cell = sample;
+    }
+}
+
+// The cell k past a place, if there is one; none that a sum of both passes the numbers for.
+fn read<S: Copy>(at: usize, k: usize, cells: &[S]) -> Option<S>
+    ensures { (past : S) → unwrap_or result past ≡ slice_index_or cells.now (at + k) past }
+{
+    cells.get(at.saturating_add(k)).copied()
 }

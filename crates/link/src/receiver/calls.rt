@@ -9,7 +9,6 @@ use crate::memory::Memory;
 use crate::proposal::Proposal;
 use crate::refusal::Refusal;
 use crate::report::{Answer, Report};
-use crate::ring::{store, store_same};
 use cost::kind::Cost;
 use line::laying::Line;
 use std::marker::PhantomData;
@@ -38,7 +37,7 @@ impl<C: Cost, L: Line> Receiver<C, L> {
         ensures loans { SameLoans memory.old memory.new }
     {
         self.check_hear(samples, memory.sizes())?;
-        store(&self.format, self.counted, samples, memory.ring);
+        self.store(samples, memory.ring);
         self.count(memory)
     }
 
@@ -48,7 +47,7 @@ impl<C: Cost, L: Line> Receiver<C, L> {
         ensures loans { SameLoans memory.old memory.new }
     {
         self.check_miss(memory.sizes())?;
-        store_same(&self.format, self.counted, C::NOTHING, memory.ring);
+        self.store_silence(memory.ring);
         self.count(memory)
     }
 

@@ -1,7 +1,6 @@
-use Rattle.std.proofs.Common.{◌≡◌, ℕ, ◌+◌, ◌*◌, ◌%◌, ◌<◌, ◌≤◌, ltb, List, length, get_or, sym, ap, ◌∙◌, rules}
+use Rattle.std.proofs.Common.{◌≡◌, ℕ, ◌+◌, ◌*◌, ◌%◌, ◌<◌, ltb, List, get_or, sym, ap, ◌∙◌}
 use native.Mathlib.Nat.{mod-add-mod}
 use Rattle.std.proofs.lemmas.Bool.{cond-true, lt-ltb}
-use Rattle.std.proofs.lemmas.List.{get_or_past}
 use Rattle.cost.specs.declared.kind.Cost.{Ghosts}
 use Rattle.trellis.specs.Met.{weighed}
 use Rattle.link.specs.declared.format.Format.{Format}
@@ -18,21 +17,15 @@ in_cell k f ring b p h =
 pub returns-in-Some : goal.returns-in-Some
 returns-in-Some g c =
     let k = g.C.Cost in
-    let f = c.args.self.now.format.now in
     let ring = c.args.self.now.ring.now in
-    let b = c.args.self.now.block in
-    let p = c.args.place in
-    let s : c.in-Some.sample.now ≡ get_or ring ((b % f.depth + p % f.depth) % f.depth * f.burst + p) k.NOTHING = search rules in
-    c.weighed.ensures ∙ ap (weighed k) s ∙ in_cell k f ring b p c.if-place-self.false
+    c.weighed.ensures ∙ ap (weighed k) (c.in-Some.ensures k.NOTHING)
+    ∙ in_cell k ring.format.now ring.cells.now c.args.self.now.block c.args.place c.if-place-format.false
 
 pub returns-in-None : goal.returns-in-None
 returns-in-None g c =
     let k = g.C.Cost in
-    let f = c.args.self.now.format.now in
     let ring = c.args.self.now.ring.now in
-    let b = c.args.self.now.block in
-    let p = c.args.place in
-    let past : length ring ≤ (b % f.depth + p % f.depth) % f.depth * f.burst + p = search rules in
     c.NOTHING-in-None.ensures
-    ∙ sym (ap (weighed k) (get_or_past ring _ k.NOTHING past) ∙ cond-true _ _ _ g.met.C.Cost.nothing_fit)
-    ∙ in_cell k f ring b p c.if-place-self.false
+    ∙ sym (cond-true _ _ _ g.met.C.Cost.nothing_fit)
+    ∙ ap (weighed k) (c.in-None.ensures k.NOTHING)
+    ∙ in_cell k ring.format.now ring.cells.now c.args.self.now.block c.args.place c.if-place-format.false
