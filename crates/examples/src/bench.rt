@@ -7,11 +7,12 @@ use line::laying::Line;
 use link::memory::Memory;
 use link::refusal::Refusal;
 use link::report::{Answer, Report};
-use std::array;
 use std::test::*;
 
 fn coded(run: &[u8]) -> [u8; 16] {
-    array::from_fn(|j| CODE.coded_bit(run, j) as u8)
+    let mut bits = [false; 16];
+    CODE.encode(run, &mut bits);
+    bits.map(|bit| bit as u8)
 }
 
 fn sent(run: &[u8]) -> [u8; 16] {

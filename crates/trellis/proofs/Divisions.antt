@@ -5,14 +5,13 @@ use Rattle.std.proofs.lemmas.Nat.{div-mul-add}
 use Rattle.std.proofs.lemmas.List.{length-reverse, reverse-append, reverse-reverse}
 use Rattle.std.proofs.lemmas.Bool.{cases_lt, le-leb, lt-leb}
 use Rattle.trellis.specs.Bits.{xor, bit_of, bits}
-use Rattle.trellis.specs.Coding.{packed}
 use Rattle.trellis.specs.Parity.{reduced, remainder, parity_of, with_parity}
 use Rattle.trellis.specs.Polynomials.{plus, times, Same, Multiple, generator}
 use Rattle.trellis.proofs.Bitwise.{bit_below, odd_below, odd_xor, xor_none, xor_over}
 use Rattle.trellis.proofs.Coded.{zero_after}
 use Rattle.trellis.proofs.Numbers.{bits_older}
 use Rattle.trellis.proofs.Parities.{remainder_below, remainder_over, remainder_plus, parity_closes, reduced_high, reduced_low, xor_clears}
-use Rattle.trellis.proofs.Taps.{bits_packed, packed_below}
+use Rattle.trellis.proofs.Taps.{packed, bits_packed, packed_below}
 
 -- each coefficient of a sum is the sum of both
 plus_at : (p q : List Bool) (i : ℕ) → get_or (plus p q) i false ≡ xor (get_or p i false) (get_or q i false)

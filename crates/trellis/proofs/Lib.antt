@@ -4,6 +4,7 @@ pub mod Clean
 pub mod Cleans
 pub mod Coded
 pub mod Divisions
+pub mod Encoding
 pub mod Growing
 pub mod Leasts
 pub mod Numbers

@@ -48,7 +48,7 @@ register_closed zero u = refl
 register_closed (suc m) u = ap (λ r. false ∷ r) (register_closed m u)
 
 -- a row without taps sums to 0
-pub summed_none : (p : List Bool) → summed 0 p ≡ false
+summed_none : (p : List Bool) → summed 0 p ≡ false
 summed_none [] = refl
 summed_none (b ∷ p) = summed_none p
 

@@ -1,15 +1,19 @@
 -- Sums over taps, by the numbers that hold the taps and the window.
-use Rattle.std.proofs.Common.{◌≡◌, ℕ, zero, suc, ◌+◌, ◌-◌, ◌*◌, ◌/◌, ◌%◌, ◌^◌, ◌<◌, ◌≤◌, Bool, false, List, [], ◌∷◌, length, get_or, sym, refl, ap, ◌∙◌, subst, ap₂, mod-eq_of_lt, arith, pow_mono}
-use lib.Bits.{bit_or, or_shifted}
-use mir.Val.{bool_byte}
-use Rattle.std.proofs.lemmas.Nat.{div-mul-add, pow-add}
+use Rattle.std.proofs.Common.{◌≡◌, ℕ, zero, suc, ◌+◌, ◌-◌, ◌*◌, ◌/◌, ◌%◌, ◌^◌, ◌<◌, ◌≤◌, Bool, false, List, [], ◌∷◌, ◌++◌, length, get_or, sym, refl, ap, ◌∙◌, subst, ap₂, pow-suc, arith}
+use Rattle.std.proofs.lemmas.Nat.{div-mul-add, mod-mul-add, pow-add}
 use Rattle.std.proofs.lemmas.List.{get_or_past}
 use Rattle.trellis.specs.Bits.{bit_of, bits}
 use Rattle.trellis.specs.Codes.{summed}
-use Rattle.trellis.specs.Coding.{packed, entered}
+use Rattle.trellis.specs.Coding.{entered}
 use Rattle.trellis.specs.Paths.{register}
-use Rattle.trellis.proofs.Bitwise.{bit_below, byte_bit, odd_below}
-use Rattle.trellis.proofs.Registers.{register_length, summed_register}
+use Rattle.trellis.proofs.Bitwise.{bit_below, odd_below}
+use Rattle.trellis.proofs.Numbers.{register_bits}
+use Rattle.trellis.proofs.Registers.{register_length, register_more, summed_register}
+
+-- the number that bits write, the first lowest
+abbrev pub packed : List Bool → ℕ
+packed [] = 0
+packed (b ∷ bs) = packed bs * 2 + bit_of b
 
 -- the number that bits write has those bits
 pub bits_packed : (r : List Bool) → bits (length r) (packed r) ≡ r
@@ -28,30 +32,30 @@ packed_below (b ∷ r) =
     let on : suc (length r) ≡ length r + 1 = omega arith in
     subst (λ n. packed (b ∷ r) < 2 ^ n) (sym on) (omega (arith, double))
 
--- the window of the 8 newest bits is a byte
-pub window_below : (p : List Bool) → packed (register 8 p) < 2 ^ 8
-window_below p = subst (λ n. packed (register 8 p) < 2 ^ n) (register_length 8 p) (packed_below (register 8 p))
+-- an older bit stands above the others
+packed_push : (r : List Bool) (x : Bool) → packed (r ++ x ∷ []) ≡ bit_of x * 2 ^ length r + packed r
+packed_push [] x = omega arith
+packed_push (b ∷ r) x = omega (arith, ap (λ v. bit_of x * v) (pow-suc 2 (length r)), packed_push r x)
 
--- a row that taps none but them sums that byte's bits
-pub window_summed : (taps : ℕ) (p : List Bool) → taps < 2 ^ 8 → summed taps (bits 8 (packed (register 8 p))) ≡ summed taps p
-window_summed taps p h =
-    let same : bits 8 (packed (register 8 p)) ≡ register 8 p = subst (λ n. bits n (packed (register 8 p)) ≡ register 8 p) (register_length 8 p) (bits_packed (register 8 p)) in
-    ap (summed taps) same ∙ sym (summed_register 8 taps p h)
+-- a window without its oldest bit is the register after it
+pub packed_masked : (m : ℕ) (p : List Bool) → packed (register (suc m) p) % 2 ^ m ≡ packed (register m p)
+packed_masked m p =
+    let r = register m p in
+    let oldest = get_or p m false in
+    let below : packed r < 2 ^ m = subst (λ n. packed r < 2 ^ n) (register_length m p) (packed_below r) in
+    let written : packed (register (suc m) p) ≡ bit_of oldest * 2 ^ m + packed r
+    = ap packed (register_more m p) ∙ packed_push r oldest ∙ ap (λ n. bit_of oldest * 2 ^ n + packed r) (register_length m p) in
+    ap (λ n. n % 2 ^ m) written ∙ mod-mul-add (bit_of oldest) (2 ^ m) (packed r) below
 
--- a byte of at most 7 bits takes one bit more at its low end
-pub packed_shift : (v : ℕ) (b : Bool) (r : List Bool) → v ≡ packed r → length r ≤ 7 → bit_or (v * 2 % 256) (bool_byte b) ≡ packed (b ∷ r)
-packed_shift v b r e h =
-    let power : 2 ^ length r ≤ 2 ^ 7 = pow_mono h in
-    let small : v * 2 < 256 = omega (arith, packed_below r) in
-    ap₂ bit_or (mod-eq_of_lt small) (byte_bit b) ∙ or_shifted v 1 (bit_of b) (bit_below b) ∙ ap (λ n. n * 2 + bit_of b) e
-
--- a window's bit is the path's
-pub get_or_register : (m : ℕ) (p : List Bool) (d : ℕ) → d < m → get_or (register m p) d false ≡ get_or p d false
-get_or_register zero p d h = absurd (omega arith)
-get_or_register (suc m) [] zero h = refl
-get_or_register (suc m) [] (suc d) h = get_or_register m [] d (omega arith)
-get_or_register (suc m) (b ∷ p) zero h = refl
-get_or_register (suc m) (b ∷ p) (suc d) h = get_or_register m p d (omega arith)
+-- a row that taps none but a window's bits sums them
+pub window_summed : (m taps : ℕ) (p : List Bool) → suc m ≤ 8 → taps < 2 ^ suc m → summed taps (bits 8 (packed (register (suc m) p))) ≡ summed taps p
+window_summed m taps p few h =
+    let window = packed (register (suc m) p) in
+    let same : bits (suc m) window ≡ register (suc m) p
+    = subst (λ n. bits n window ≡ register (suc m) p) (register_length (suc m) p) (bits_packed (register (suc m) p)) in
+    summed_register (suc m) taps (bits 8 window) h
+    ∙ ap (summed taps) (register_bits (suc m) 8 window few ∙ same)
+    ∙ sym (summed_register (suc m) taps p h)
 
 -- the bit of an age, counted from the newest
 pub get_or_entered : (run : List Bool) (t age : ℕ) → age ≤ t → get_or (entered run t) age false ≡ get_or run (t - age) false

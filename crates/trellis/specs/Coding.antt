@@ -1,6 +1,5 @@
 -- The coded bits of a run.
-use Rattle.std.specs.Prelude.{ℕ, zero, suc, ◌+◌, ◌*◌, ◌/◌, ◌%◌, Bool, false, List, [], ◌∷◌, slice_index, slice_index_or}
-use Rattle.trellis.specs.Bits.{bit_of}
+use Rattle.std.specs.Prelude.{ℕ, zero, suc, ◌/◌, ◌%◌, Bool, false, List, [], ◌∷◌, slice_index, slice_index_or}
 use Rattle.trellis.specs.Codes.{summed, rows_of}
 use Rattle.trellis.specs.declared.code.Code.{Code}
 
@@ -12,8 +11,3 @@ entered run (suc t) = slice_index_or run (suc t) false ∷ entered run t
 -- the rows of one step stand side by side; a row that is not there has no taps
 abbrev pub coded_bit : Code → List Bool → ℕ → Bool
 coded_bit c run j = summed (slice_index (rows_of c) (j % c.rows)) (entered run (j / c.rows))
-
--- the number that bits write, the first lowest
-abbrev pub packed : List Bool → ℕ
-packed [] = 0
-packed (b ∷ bs) = packed bs * 2 + bit_of b

@@ -8,5 +8,6 @@ pub mod decide;
 mod forward;
 pub mod parity;
 pub mod received;
+mod register;
 mod traceback;
 mod windows;
