@@ -1,5 +1,5 @@
 // The format of a block that both ends agree on.
-ghost use Rattle.std.specs.Prelude.{◌≡◌, ◌≤◌, true};
+ghost use Rattle.std.specs.Prelude.{◌≡◌, ◌+◌, ◌*◌, ◌≤◌, true};
 ghost use Rattle.trellis.specs.Codes.{sound};
 
 use trellis::code::Code;
@@ -19,6 +19,7 @@ pub struct Format<L> {
     ghost least_message: { 1 ≤ message },
     ghost most_message: { message ≤ 512 },
     ghost most_parity: { parity ≤ 16 },
+    ghost most_coded: { code.rows * (message + parity + code.memory) ≤ 2048 },
     ghost least_depth: { 1 ≤ depth },
     ghost most_depth: { depth ≤ 3 },
     ghost most_burst: { burst ≤ 1024 },

@@ -1,16 +1,16 @@
 -- The steps of the encoder: the register as a number, and the bits that are put.
-use Rattle.std.proofs.Common.{◌≡◌, ℕ, zero, suc, ◌+◌, ◌-◌, ◌*◌, ◌%◌, ◌^◌, ◌<◌, ◌≤◌, min, ltb, Bool, true, false, List, [], ◌∷◌, ◌++◌, length, get_or, take, sym, refl, ap, ◌∙◌, subst, ap₂, inl, inr, add-one, arith, get_or-take, pow_pos, pow_mono}
+use Rattle.std.proofs.Common.{◌≡◌, ℕ, zero, suc, ◌+◌, ◌-◌, ◌*◌, ◌/◌, ◌%◌, ◌^◌, ◌<◌, ◌≤◌, min, ltb, Bool, true, false, List, [], ◌∷◌, ◌++◌, length, get_or, take, sym, refl, ap, ◌∙◌, subst, ap₂, mul_comm, inl, inr, add-one, arith, get_or-take, pow_pos, pow_mono}
 use Rattle.std.proofs.lemmas.Bool.{cases_lt, ltb-true, and_parts}
-use Rattle.std.proofs.lemmas.List.{get_or_append_left, get_or-append_right, length-take-le}
+use Rattle.std.proofs.lemmas.List.{get_or_append_left, get_or-append_right, get_or_past, length-take-le}
 use Rattle.std.proofs.lemmas.Grind.{div_ceil_times}
-use Rattle.std.proofs.lemmas.Nat.{div-mul-add, mod-mul-add, mul-le}
+use Rattle.std.proofs.lemmas.Nat.{div-mul-add, mod-mul-add, mul-le, le-div}
 use Rattle.std.specs.Int.{div_ceil}
 use Rattle.trellis.specs.Bits.{bit_of, bits}
 use Rattle.trellis.specs.Codes.{summed, rows_of, all_below}
 use Rattle.trellis.specs.Coding.{coded_bit, entered}
 use Rattle.trellis.specs.Paths.{register}
 use Rattle.trellis.specs.declared.code.Code.{Code}
-use Rattle.trellis.proofs.Registers.{register_length}
+use Rattle.trellis.proofs.Registers.{register_length, summed_same}
 use Rattle.trellis.proofs.Soundness.{Sound}
 use Rattle.trellis.proofs.Taps.{packed, packed_below, packed_masked, window_summed}
 
@@ -33,6 +33,14 @@ step_begins room rows t some h =
 -- so many steps leave no room over
 pub steps_fill : (room rows t : ℕ) → 0 < rows → div_ceil room rows ≤ t → room ≤ t * rows
 steps_fill room rows t some h = omega (arith, (div_ceil_times room rows some).0, mul-le (div_ceil room rows) rows t rows h (omega arith))
+
+-- when as many zeros have entered as the memory has, the window is empty
+entered_closed : (run : List Bool) (m t : ℕ) → length run + m ≤ t → register (suc m) (entered run t) ≡ register (suc m) []
+entered_closed run zero zero h = ap (λ b. b ∷ []) (get_or_past run 0 false (omega arith))
+entered_closed run zero (suc t) h = ap (λ b. b ∷ []) (get_or_past run (suc t) false (omega arith))
+entered_closed run (suc m) zero h = absurd (omega arith)
+entered_closed run (suc m) (suc t) h =
+    ap₂ (λ (b : Bool) (r : List Bool). b ∷ r) (get_or_past run (suc t) false (omega arith)) (entered_closed run m t (omega arith))
 
 module _ (code : Code) (run : List Bool) where
   -- the number of the window of step t
@@ -97,3 +105,20 @@ module _ (code : Code) (run : List Bool) where
       where
         long : length (take a before) ≡ a
         long = length-take-le a before within
+
+    -- past the steps of a run and its closing zeros every coded bit is 0
+    coded_past : (j : ℕ) → code.rows * (length run + code.memory) ≤ j → coded_bit code run j ≡ false
+    coded_past j h =
+        let m = code.memory in
+        let taps = get_or (rows_of code) (j % code.rows) 0 in
+        let below : taps < 2 ^ suc m = subst (λ n. taps < 2 ^ n) (add-one m) (row_below (m + 1) (rows_of code) (j % code.rows) sound.taps_below) in
+        let late : length run + m ≤ j / code.rows = le-div (length run + m) j code.rows sound.some_rows (omega (arith, mul_comm code.rows (length run + m))) in
+        summed_same (suc m) taps (entered run (j / code.rows)) [] below (entered_closed run m (j / code.rows) late)
+
+    -- so coded bits that reach so far have each coded bit, those past their end too
+    pub encoded_whole : (coded : List Bool) → code.rows * (length run + code.memory) ≤ length coded →
+        ((j : ℕ) → j < length coded → get_or coded j false ≡ coded_bit code run j) → (j : ℕ) → get_or coded j false ≡ coded_bit code run j
+    encoded_whole coded room below j = elim (cases_lt j (length coded)) [
+      | inl h ↦ below j h
+      | inr o ↦ get_or_past coded j false o ∙ sym (coded_past j (omega arith))
+    ]

@@ -13,7 +13,7 @@ pub(crate) const MOST_MESSAGE: usize = 512;
 
 pub(crate) const MOST_PARITY: usize = 16;
 
-const MOST_CODED: usize = 2048;
+pub(crate) const MOST_CODED: usize = 2048;
 
 const MOST_BURST: usize = 1024;
 

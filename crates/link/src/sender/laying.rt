@@ -1,15 +1,13 @@
 // Laying bits by burst place: those of a block in the ring, and those that a burst takes from the ring.
-ghost use Rattle.std.specs.Prelude.{◌≡◌, ◌≤◌, ◌+◌, ◌*◌, ℕ, Bool, List, map, length, reverse, replicate};
+ghost use Rattle.std.specs.Prelude.{◌≡◌, ◌≤◌, ◌+◌, ◌*◌, ℕ, Bool, false, List, map, length, reverse, replicate, slice_index_or};
 ghost use Rattle.trellis.specs.Bits.{bit_of, bits, odd, xor};
-ghost use Rattle.trellis.specs.Coding.{coded_bit};
 ghost use Rattle.trellis.specs.Parity.{with_parity};
 ghost use Rattle.link.specs.Due.{laid_at, stored};
 ghost use Rattle.link.specs.Sending.{ByPlace, BlockByPlace, BurstFromRing, carried};
 
 use crate::format::Format;
-use crate::format::agree::{MOST_MESSAGE, MOST_PARITY};
+use crate::format::agree::{MOST_CODED, MOST_MESSAGE, MOST_PARITY};
 use line::laying::Line;
-use trellis::code::Code;
 use trellis::parity::remainder_of;
 
 const MOST_RUN: usize = MOST_MESSAGE + MOST_PARITY;
@@ -22,18 +20,17 @@ trait PlacedBits {
         ensures { result ≡ bit self.now j k turned };
 }
 
-// The coded bits of a block, before turning.
+// The coded bits of a block, before turning. Past them stand zeros.
 #[derive(Drop)]
-struct Coded<'c, 'r> {
-    code: &'c Code,
-    run: &'r [u8],
+struct Coded<'b> {
+    bits: &'b [bool],
 }
 
-impl<'c, 'r> PlacedBits for Coded<'c, 'r> {
-    ghost bit = { λ b j k turned. coded_bit b.code.now (map odd b.run.now) j };
+impl<'b> PlacedBits for Coded<'b> {
+    ghost bit = { λ b j k turned. slice_index_or b.bits.now j false };
 
     fn bit(&self, j: usize, _: usize, _: bool) -> bool {
-        self.code.coded_bit(self.run, j)
+        self.bits.get(j).is_some_and(|bit| *bit)
     }
 }
 
@@ -114,15 +111,14 @@ impl<L: Line> Format<L> {
         requires room { self.now.depth * self.now.burst ≤ length ring.old }
         ensures { (block : List ℕ) × BlockByPlace L.Line self.now (map odd message.now) block × (ring.new ≡ stored self.now number block ring.old) }
     {
-        let mut bits = [0; MOST_RUN];
-        let run = &mut bits[..self.message + self.parity];
+        let mut protected = [0; MOST_RUN];
+        let run = &mut protected[..self.message + self.parity];
         write_run(message, self.parity, run);
-        let coded = Coded {
-            code: &self.code,
-            run,
-        };
+        let mut bits = [false; MOST_CODED];
+        let coded = &mut bits[..self.code.rows * self.steps()];
+        self.code.encode(run, coded);
         let at = self.ring_start(number);
-        self.fill(&coded, &mut ring[at..at + self.burst]);
+        self.fill(&Coded { bits: coded }, &mut ring[at..at + self.burst]);
     }
 
     // Puts burst `number` at the front of the burst memory.
