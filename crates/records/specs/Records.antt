@@ -1,5 +1,6 @@
 -- The records of a recording, and the bytes that spell them.
-use Rattle.std.specs.Prelude.{◌≡◌, ℕ, ◌/◌, ◌%◌, ◌<◌, ◌≤◌, List, [], ◌∷◌, ◌++◌, length, take, Some, None, Ok, Err, Option, Result, ◌≢◌, codes}
+use Rattle.std.specs.Prelude.{◌≡◌, ℕ, ◌/◌, ◌%◌, ◌<◌, ◌≤◌, List, [], ◌∷◌, ◌++◌, length, take, drop, Some, None, Ok, Err, Option, Result, ◌≢◌, codes}
+use Rattle.std.specs.Borrow.{Bor}
 use Rattle.channels.specs.Bytes.{channel_byte}
 use Rattle.channels.specs.declared.channel.Channel.{Channel}
 use Rattle.records.specs.declared.record.Kind.{Kind}
@@ -51,10 +52,10 @@ pub record Begins (bytes : List ℕ) (s : Said) : Type 0 where
   -- as many of the bytes as it takes are its own
   pub spelt : take (length (spelling s)) bytes ≡ spelling s
 
--- what reading the bytes answers: the one record that they begin with and how many bytes it takes, or nothing where they begin with none
-abbrev pub Reads : List ℕ → Option (Record × ℕ) → Type 0
-Reads bytes (Some (found, taken)) =
-    Begins bytes (said found) × (taken ≡ length (spelling (said found))) × ((s : Said) → Begins bytes s → s ≡ said found)
+-- what reading the bytes answers: the one record that they begin with and the bytes behind it, or nothing where they begin with none
+abbrev pub Reads : List ℕ → Option (Record × Bor (List ℕ)) → Type 0
+Reads bytes (Some (found, rest)) =
+    Begins bytes (said found) × (rest.now ≡ drop (length (spelling (said found))) bytes) × ((s : Said) → Begins bytes s → s ≡ said found)
 Reads bytes None = (s : Said) → Begins bytes s → ⊥
 
 -- what is written of a record that was not spelt

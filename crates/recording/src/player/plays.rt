@@ -3,8 +3,8 @@ ghost use Rattle.std.specs.Prelude.{◌≡◌, ◌++◌, IfOk, OnOk, string_byte
 ghost use Rattle.recording.specs.Kinds.{weighing};
 ghost use Rattle.recording.specs.Lines.{written};
 ghost use Rattle.recording.specs.Made.{text};
-ghost use Rattle.recording.specs.Playing.{weighed, rest, finished, Begun, Opens, PlaysCalls, Turns};
-ghost use Rattle.records.specs.Records.{said, Reads};
+ghost use Rattle.recording.specs.Playing.{weighed, finished, Begun, Comes, Opens, PlaysCalls, Turns};
+ghost use Rattle.records.specs.Records.{said};
 
 use super::Player;
 use crate::figures::Figured;
@@ -31,20 +31,22 @@ impl<'a> Player<'a> {
         }
     }
 
+    // The record that comes next, and the place where the rest begins.
     fn next(&self) -> Option<(Record<'a>, usize)>
-        ensures { Reads (rest self.now) result }
+        ensures { Comes self.now result }
     {
-        next_record(&self.bytes[self.at..])
+        let (record, rest) = next_record(&self.bytes[self.at..])?;
+        Some((record, self.bytes.len() - rest.len()))
     }
 
     // Reads the opening that comes next, if one does.
     pub(crate) fn opening(&mut self) -> Option<(Channel, Kind)>
         ensures { Opens self.old result self.new }
     {
-        let Some((Record::Open { channel, kind }, taken)) = self.next() else {
+        let Some((Record::Open { channel, kind }, after)) = self.next() else {
             return None;
         };
-        self.at += taken;
+        self.at = after;
         Some((channel, kind))
     }
 
@@ -65,11 +67,11 @@ impl<'a> Player<'a> {
     {
         put::<C>(&mut self.lines, &Line::Opened(channel))?;
         let mut station = Station::<C>::open(self.heap, channel)?;
-        while let Some((record, taken)) = self.next() {
+        while let Some((record, after)) = self.next() {
             if !answer(self.heap, &mut station, record, &mut self.lines)? {
                 break;
             }
-            self.at += taken;
+            self.at = after;
         }
         Ok(())
     }

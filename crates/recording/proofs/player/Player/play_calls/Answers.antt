@@ -1,8 +1,8 @@
-use Rattle.std.proofs.Common.{◌≡◌, ◌+◌, ◌++◌, drop, true, false, Some, string_bytes, sym, refl, subst}
+use Rattle.std.proofs.Common.{◌≡◌, ◌++◌, drop, true, false, string_bytes, sym, refl, subst}
 use Rattle.recording.specs.Lines.{opened_line, written}
 use Rattle.recording.specs.Playing.{weighed, Wrote, Turns, PlaysCalls}
 use Rattle.records.specs.Recordings.{may_stand}
-use Rattle.records.specs.Records.{said, Reads}
+use Rattle.records.specs.Records.{said, Begins}
 use Rattle.stations.specs.Stations.{memory}
 use Rattle.recording.proofs.Going.{Going, going_begun, going_after, calls_after}
 use Rattle.recording.proofs.player.Player.play_calls.Goals as goal
@@ -34,14 +34,14 @@ loop-record-preserved g c =
     let text = string_bytes q.lines in
     let text' = string_bytes c.answer.new.lines in
     let says = said c.in-Some.record in
-    let found = subst (λ b. Reads (drop q.at b) (Some (c.in-Some.record, c.in-Some.taken))) i.same c.in-Some.ensures in
+    let found = c.in-Some.ensures in
     let wrote : Wrote w says s text s' text' = subst (λ b. Turns w says s text b s' text') c.if-not-branch.false c.in_ok-answer.ensures in
     record {
       same = i.same;
       going =
-          subst (λ n. Going w first.receiver p.bytes.now p.at (memory first) s'.receiver (memory s') (q.at + n) before text') (sym found.1)
+          subst (λ n. Going w first.receiver p.bytes.now p.at (memory first) s'.receiver (memory s') n before text') (sym found.1)
           (going_after w first.receiver p.bytes.now p.at (memory first) c.in_ok-station.ensures.tuned.opened.histories s s' q.at before text text'
-          says found.0 i.going wrote);
+          says (subst (λ b. Begins (drop q.at b) says) i.same found.0) i.going wrote);
     }
 
 pub returns : goal.returns
