@@ -27,7 +27,7 @@ begins_within : (bytes : List ℕ) (s : Said) → Begins bytes s → length (spe
 begins_within bytes s b = omega (arith, length-take (length (spelling s)) bytes, ap length b.spelt)
 
 -- memory of the sizes needed is enough
-needed_enough : {B L : Type 0} (f : Format L) → first (memory_rules {B = B} f (needed f)) ≡ None
+needed_enough : {L : Type 0} (f : Format L) → first (memory_rules f (needed f)) ≡ None
 needed_enough f =
     simp (
       le-leb (needed f).ring (needed f).ring (omega arith),
@@ -52,7 +52,7 @@ module _ (w : Weighing) (opened : Receiver w.C Laying w.S w.P) (bytes : List ℕ
   -- memory so large is enough
   enough : (m : Memory w.S w.P) → sizes m ≡ needed opened.format → Enough w opened m
   enough m e =
-      record { room = e; rules = subst (λ z. first (memory_rules {B = Report w.C w.S w.P} opened.format z) ≡ None) (sym e) (needed_enough opened.format) }
+      record { room = e; rules = subst (λ z. first (memory_rules opened.format z) ≡ None) (sym e) (needed_enough opened.format) }
 
   -- a call goes on with them
   goes_on : (r r' : Receiver w.C Laying w.S w.P) (m m' : Memory w.S w.P) (at : ℕ) (before text text' : List ℕ) (s : Said) (line : List ℕ)
