@@ -19,11 +19,21 @@ impl<L> Format<L> {
         self.depth * self.burst
     }
 
-    // Where the cells of burst n begin.
-    pub(crate) fn ring_start(&self, n: usize) -> usize
-        ensures { result ≡ cell self.now n 0 }
+    // Stores burst n in a ring that is lent: a receiver's samples, or a sender's bits.
+    pub(crate) fn store<S: Copy>(&self, n: usize, samples: &[S], ring: &mut [S])
+        requires whole { length samples.now ≡ self.now.burst }
+        requires room { self.now.depth * self.now.burst ≤ length ring.old }
+        ensures { ring.new ≡ stored self.now n samples.now ring.old }
     {
-        n % self.depth * self.burst
+        Ring::new(ring, self).store(n, samples);
+    }
+
+    // The same of a burst whose samples are all alike.
+    pub(crate) fn store_same<S: Copy>(&self, n: usize, sample: S, ring: &mut [S])
+        requires { self.now.depth * self.now.burst ≤ length ring.old }
+        ensures { ring.new ≡ stored self.now n (replicate self.now.burst sample) ring.old }
+    {
+        Ring::new(ring, self).store_same(n, sample);
     }
 }
 
@@ -40,7 +50,7 @@ impl<'a, 'f, S: Copy, L> Ring<'a, 'f, S, L> {
     fn start(&self, n: usize) -> usize
         ensures { result ≡ cell self.now.format.now n 0 }
     {
-        self.format.ring_start(n)
+        n % self.format.depth * self.format.burst
     }
 
     // Burst n in its cells.

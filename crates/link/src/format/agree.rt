@@ -15,7 +15,7 @@ pub(crate) const MOST_PARITY: usize = 16;
 
 pub(crate) const MOST_CODED: usize = 2048;
 
-const MOST_BURST: usize = 1024;
+pub(crate) const MOST_BURST: usize = 1024;
 
 fn lengths_suit(message: usize, parity: usize, depth: usize) -> bool
     ensures { result ≡ lengths_suit message parity depth }

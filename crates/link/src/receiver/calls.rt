@@ -37,7 +37,7 @@ impl<C: Cost, L: Line> Receiver<C, L> {
         ensures loans { SameLoans memory.old memory.new }
     {
         self.check_hear(samples, memory.sizes())?;
-        self.store(samples, memory.ring);
+        self.format.store(self.counted, samples, memory.ring);
         self.count(memory)
     }
 
@@ -47,7 +47,8 @@ impl<C: Cost, L: Line> Receiver<C, L> {
         ensures loans { SameLoans memory.old memory.new }
     {
         self.check_miss(memory.sizes())?;
-        self.store_silence(memory.ring);
+        self.format
+            .store_same(self.counted, C::NOTHING, memory.ring);
         self.count(memory)
     }
 

@@ -1,8 +1,8 @@
 // Taking a burst in: it is stored, counted, and the block that it ends is decided.
-ghost use Rattle.std.specs.Prelude.{◌≡◌, ◌+◌, ◌-◌, ◌*◌, ◌<◌, ◌≤◌, Bool, List, ◌++◌, map, reverse, length, take, drop};
+ghost use Rattle.std.specs.Prelude.{◌≡◌, ◌+◌, ◌-◌, ◌<◌, ◌≤◌, Bool, List, ◌++◌, map, reverse, length, take, drop};
 ghost use Rattle.trellis.specs.Bits.{bit_of};
-ghost use Rattle.link.specs.Calls.{Decides, Counts, SameLoans, lent, right, silence};
-ghost use Rattle.link.specs.Due.{in_ring, stored};
+ghost use Rattle.link.specs.Calls.{Decides, Counts, SameLoans, lent, right};
+ghost use Rattle.link.specs.Due.{in_ring};
 ghost use Rattle.link.specs.Rules.{Suffices, steps};
 
 use super::Receiver;
@@ -37,23 +37,6 @@ impl<L: Line> Format<L> {
 }
 
 impl<C: Cost, L: Line> Receiver<C, L> {
-    // Stores the burst that comes next.
-    pub(super) fn store(&self, samples: &[C::Sample], ring: &mut [C::Sample])
-        requires whole { length samples.now ≡ self.now.format.burst }
-        requires room { self.now.format.depth * self.now.format.burst ≤ length ring.old }
-        ensures { ring.new ≡ stored self.now.format self.now.counted samples.now ring.old }
-    {
-        Ring::new(ring, &self.format).store(self.counted, samples);
-    }
-
-    // The same of one that never came.
-    pub(super) fn store_silence(&self, ring: &mut [C::Sample])
-        requires { self.now.format.depth * self.now.format.burst ≤ length ring.old }
-        ensures { ring.new ≡ stored self.now.format self.now.counted (silence C.Cost L.Line self.now.format) ring.old }
-    {
-        Ring::new(ring, &self.format).store_same(self.counted, C::NOTHING);
-    }
-
     // Block `number` by the trellis rule; its message is written only where its parity is right. The ring is read only: it comes
     // as a `&mut`, since the check does not cover a `&` to one part of a memory beside a `&mut` to another.
     fn decide(

@@ -6,7 +6,8 @@ ghost use Rattle.link.specs.Due.{laid_at, stored};
 ghost use Rattle.link.specs.Sending.{ByPlace, BlockByPlace, BurstFromRing, carried};
 
 use crate::format::Format;
-use crate::format::agree::{MOST_CODED, MOST_MESSAGE, MOST_PARITY};
+use crate::format::agree::{MOST_BURST, MOST_CODED, MOST_MESSAGE, MOST_PARITY};
+use crate::ring::Ring;
 use line::laying::Line;
 use trellis::parity::remainder_of;
 
@@ -36,29 +37,27 @@ impl<'b> PlacedBits for Coded<'b> {
 
 // The bits that burst `number` takes from the ring.
 #[derive(Drop)]
-struct Carried<'r, 'f, L> {
-    ring: &'r [u8],
-    format: &'f Format<L>,
+struct Carried<'r, 'a, 'f, L> {
+    ring: &'r Ring<'a, 'f, u8, L>,
     number: usize,
 }
 
-impl<'r, 'f, L> Carried<'r, 'f, L> {
+impl<'r, 'a, 'f, L> Carried<'r, 'a, 'f, L> {
     // What the burst carries at place k before turning.
     fn carried(&self, k: usize) -> bool
-        ensures { result ≡ carried self.now.format.now self.now.ring.now self.now.number k }
+        ensures { result ≡ carried self.now.ring.now.format.now self.now.ring.now.cells.now self.now.number k }
     {
-        let back = k % self.format.depth;
+        let back = k % self.ring.format.depth;
         if back > self.number {
             return false;
         }
-        // Past every ring where it would not fit.
-        let at = self.format.ring_start(self.number - back).saturating_add(k);
-        self.ring.get(at).is_some_and(|byte| *byte > 0)
+        let byte = self.ring.sample(self.number - back, k);
+        byte.is_some_and(|byte| byte > 0)
     }
 }
 
-impl<'r, 'f, L> PlacedBits for Carried<'r, 'f, L> {
-    ghost bit = { λ b j k turned. xor turned (carried b.format.now b.ring.now b.number k) };
+impl<'r, 'a, 'f, L> PlacedBits for Carried<'r, 'a, 'f, L> {
+    ghost bit = { λ b j k turned. xor turned (carried b.ring.now.format.now b.ring.now.cells.now b.number k) };
 
     fn bit(&self, _: usize, k: usize, turned: bool) -> bool {
         turned != self.carried(k)
@@ -117,18 +116,21 @@ impl<L: Line> Format<L> {
         let mut bits = [false; MOST_CODED];
         let coded = &mut bits[..self.code.rows * self.steps()];
         self.code.encode(run, coded);
-        let at = self.ring_start(number);
-        self.fill(&Coded { bits: coded }, &mut ring[at..at + self.burst]);
+        let mut places = [0; MOST_BURST];
+        let block = &mut places[..self.burst];
+        self.fill(&Coded { bits: coded }, block);
+        self.store(number, block, ring);
     }
 
-    // Puts burst `number` at the front of the burst memory.
-    pub(super) fn put(&self, number: usize, ring: &[u8], burst: &mut [u8])
+    // Puts burst `number` at the front of the burst memory. The ring is only read.
+    pub(super) fn put(&self, number: usize, ring: &mut [u8], burst: &mut [u8])
         requires { self.now.burst ≤ length burst.old }
-        ensures { (row : List ℕ) × BurstFromRing L.Line self.now number ring.now row × (burst.new ≡ laid_at 0 row burst.old) }
+        ensures put { (row : List ℕ) × BurstFromRing L.Line self.now number ring.old row × (burst.new ≡ laid_at 0 row burst.old) }
+        ensures ring { ring.new ≡ ring.old }
     {
+        let ring = Ring::new(ring, self);
         let carried = Carried {
-            ring,
-            format: self,
+            ring: &ring,
             number,
         };
         self.fill(&carried, &mut burst[..self.burst]);

@@ -6,7 +6,6 @@ use Rattle.trellis.proofs.Encoding.{encoded_whole}
 use Rattle.trellis.proofs.Parities.{with_parity_length}
 use Rattle.trellis.proofs.Soundness.{sound_parts}
 use Rattle.link.specs.Sending.{run_of}
-use Rattle.link.proofs.Laying.{part_laid}
 use Rattle.link.proofs.format.Format.keep.Goals as goal
 
 pub write_run-requires-clause-zeros : goal.write_run-requires-clause-zeros
@@ -33,5 +32,5 @@ returns g c =
         whole = c.fill.ensures.whole;
         bits = λ j k turned e h. c.fill.ensures.bits j k turned e h ∙ ap bit_of (all j);
       },
-      part_laid c.ring_start-at.result _ f.burst c.fill.new.row c.args.ring.now c.ring_start-at.ensures c.fill.ensures.whole,
+      c.store.ensures,
     )

@@ -1,6 +1,7 @@
-use Rattle.std.proofs.Common.{Err, ap, ◌∙◌}
+use Rattle.std.proofs.Common.{replicate, Err, ap, ◌∙◌}
 use Rattle.std.proofs.lemmas.Result.{err_from_is_err_and}
 use Rattle.link.specs.Calls.{lent, silence}
+use Rattle.link.specs.Due.{stored}
 use Rattle.link.specs.Rules.{first, miss_rules}
 use Rattle.link.proofs.Judging.{judges_refused, judges_taken}
 use Rattle.link.proofs.receiver.Receiver.miss.Goals as goal
@@ -18,4 +19,4 @@ returns-clause-called g c =
     let r = c.args.self.now in
     judges_taken g.C.Cost g.L.Line (silence g.C.Cost g.L.Line r.format) r (lent c.args.memory.now) c.count.result _ _ c.count.new.self (lent c.count.new.memory)
     (c.in_ok-check_miss.ensures ∙ ap (λ z. first (miss_rules r.format z r.counted)) c.sizes.ensures)
-    c.store_silence.ensures c.count.ensures.ring c.count.ensures.counted
+    (c.store_same.ensures ∙ ap (λ s. stored r.format r.counted (replicate r.format.burst s) c.args.memory.now.ring.now) c.NOTHING.ensures) c.count.ensures.ring c.count.ensures.counted

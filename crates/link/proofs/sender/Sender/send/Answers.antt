@@ -1,7 +1,7 @@
-use Rattle.std.proofs.Common.{Err, ap, ◌∙◌}
+use Rattle.std.proofs.Common.{◌+◌, Ok, Err, sym, ap, subst, ◌∙◌}
 use Rattle.std.proofs.lemmas.Result.{err_from_is_err_and}
 use Rattle.link.specs.Rules.{first, send_rules}
-use Rattle.link.specs.Sending.{SenderMemory, sender_sizes}
+use Rattle.link.specs.Sending.{SenderMemory, sender_sizes, SendsBy}
 use Rattle.link.proofs.Judging.{sends_refused, sends_taken}
 use Rattle.link.proofs.sender.Sender.send.Goals as goal
 
@@ -17,5 +17,6 @@ pub returns : goal.returns
 returns g c =
     let s = c.args.self.now in
     let m : SenderMemory = record { ring = c.args.ring.now; burst = c.args.burst.now } in
-    sends_taken g.L.Line c.args.message.now s m c.keep.new.ring c.put.new.burst (first (send_rules s.format (sender_sizes m) s.counted c.args.message.now))
-    c.in_ok-check_send.ensures c.keep.ensures c.put.ensures
+    let rules = first (send_rules s.format (sender_sizes m) s.counted c.args.message.now) in
+    subst (λ ring. SendsBy g.L.Line rules c.args.message.now s m (Ok s.counted) (record s { counted = s.counted + 1 }) (record { ring = ring; burst = c.put.new.burst })) (sym c.put.ensures.ring)
+    (sends_taken g.L.Line c.args.message.now s m c.keep.new.ring c.put.new.burst rules c.in_ok-check_send.ensures c.keep.ensures c.put.ensures.put)
