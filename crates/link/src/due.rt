@@ -15,6 +15,7 @@ use trellis::received::{Received, weighed};
 pub(crate) struct Due<'r, 'a, 'f, C: Cost, L: Line> {
     pub(crate) ring: &'r Ring<'a, 'f, C::Sample, L>,
     pub(crate) block: usize,
+    ghost few: { block ≤ 1000000 },
 }
 
 impl<'r, 'a, 'f, C: Cost, L: Line> Due<'r, 'a, 'f, C, L> {
@@ -26,9 +27,7 @@ impl<'r, 'a, 'f, C: Cost, L: Line> Due<'r, 'a, 'f, C, L> {
         if place >= format.burst {
             return C::NOTHING;
         }
-        // The burst's number but for whole rings, so that the sum fits.
-        let burst = self.block % format.depth + place % format.depth;
-        match self.ring.sample(burst, place) {
+        match self.ring.sample(self.block + place % format.depth, place) {
             Some(sample) => weighed::<C>(sample),
             None => C::NOTHING,
         }

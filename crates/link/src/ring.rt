@@ -1,5 +1,5 @@
 // The ring of the last bursts: sample k of burst n lies in cell (n mod depth) * burst + k.
-ghost use Rattle.std.specs.Prelude.{◌≡◌, ◌+◌, ◌*◌, ◌≤◌, length, replicate, slice_index_or, unwrap_or};
+ghost use Rattle.std.specs.Prelude.{◌≡◌, ◌+◌, ◌*◌, ◌<◌, ◌≤◌, length, replicate, slice_index_or, unwrap_or};
 ghost use Rattle.link.specs.Due.{cell, laid_at, stored};
 
 use crate::format::Format;
@@ -76,9 +76,10 @@ impl<'a, 'f, S: Copy, L> Ring<'a, 'f, S, L> {
 
     // Sample k of burst n, if the ring reaches so far.
     pub(crate) fn sample(&self, n: usize, k: usize) -> Option<S>
+        requires { k < 1024 }
         ensures { (past : S) → unwrap_or result past ≡ slice_index_or self.now.cells.now (cell self.now.format.now n k) past }
     {
-        read(self.start(n), k, self.cells)
+        read(self.start(n) + k, self.cells)
     }
 }
 
@@ -101,9 +102,9 @@ fn lay_same<S: Copy>(sample: S, count: usize, at: usize, cells: &mut [S])
     }
 }
 
-// The cell k past a place, if there is one; none that a sum of both passes the numbers for.
-fn read<S: Copy>(at: usize, k: usize, cells: &[S]) -> Option<S>
-    ensures { (past : S) → unwrap_or result past ≡ slice_index_or cells.now (at + k) past }
+// The sample at a place, if the cells reach so far.
+fn read<S: Copy>(at: usize, cells: &[S]) -> Option<S>
+    ensures { (past : S) → unwrap_or result past ≡ slice_index_or cells.now at past }
 {
-    cells.get(at.saturating_add(k)).copied()
+    cells.get(at).copied()
 }

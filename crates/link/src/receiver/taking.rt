@@ -47,7 +47,8 @@ impl<C: Cost, L: Line> Receiver<C, L> {
         paths: &mut [u8],
         block: &mut [u8],
     ) -> Result<Answer<C>, Refusal<Report<C>>>
-        requires { Suffices self.now.format (length costs.old) (length paths.old) (length block.old) }
+        requires number { number ≤ 1000000 }
+        requires memory { Suffices self.now.format (length costs.old) (length paths.old) (length block.old) }
         ensures decided { Decides C.Cost L.Line self.now.format (in_ring C.Cost self.now.format ring.old number) number block.old result block.new }
         ensures ring { ring.new ≡ ring.old }
     {

@@ -1,5 +1,5 @@
 // Laying bits by burst place: those of a block in the ring, and those that a burst takes from the ring.
-ghost use Rattle.std.specs.Prelude.{◌≡◌, ◌≤◌, ◌+◌, ◌*◌, ℕ, Bool, false, List, map, length, reverse, replicate, slice_index_or};
+ghost use Rattle.std.specs.Prelude.{◌≡◌, ◌<◌, ◌≤◌, ◌+◌, ◌*◌, ℕ, Bool, false, List, map, length, reverse, replicate, slice_index_or};
 ghost use Rattle.trellis.specs.Bits.{bit_of, bits, odd, xor};
 ghost use Rattle.trellis.specs.Parity.{with_parity};
 ghost use Rattle.link.specs.Due.{laid_at, stored};
@@ -18,6 +18,7 @@ trait PlacedBits {
     ghost bit: { Self → ℕ → ℕ → Bool → Bool };
 
     fn bit(&self, j: usize, k: usize, turned: bool) -> bool
+        requires { k < 1024 }
         ensures { result ≡ bit self.now j k turned };
 }
 
@@ -45,6 +46,7 @@ struct Carried<'r, 'a, 'f, L> {
 impl<'r, 'a, 'f, L> Carried<'r, 'a, 'f, L> {
     // What the burst carries at place k before turning.
     fn carried(&self, k: usize) -> bool
+        requires { k < 1024 }
         ensures { result ≡ carried self.now.ring.now.format.now self.now.ring.now.cells.now self.now.number k }
     {
         let back = k % self.ring.format.depth;

@@ -1,18 +1,15 @@
-use Rattle.std.proofs.Common.{◌≡◌, ℕ, ◌+◌, ◌*◌, ◌%◌, ◌<◌, ltb, List, get_or, sym, ap, ◌∙◌}
-use native.Mathlib.Nat.{mod-add-mod}
+use Rattle.std.proofs.Common.{◌≡◌, ℕ, ◌<◌, ltb, List, get_or, sym, ap, ◌∙◌}
 use Rattle.std.proofs.lemmas.Bool.{cond-true, lt-ltb}
 use Rattle.cost.specs.declared.kind.Cost.{Ghosts}
 use Rattle.trellis.specs.Met.{weighed}
 use Rattle.link.specs.declared.format.Format.{Format}
-use Rattle.link.specs.Due.{in_ring}
+use Rattle.link.specs.Due.{burst_of, cell, in_ring}
 use Rattle.link.proofs.due.Due.sample.Goals as goal
 
 -- a sample due is what lies in its cell, weighed
 in_cell : {C S P L : Type 0} (k : Ghosts C S P) (f : Format L) (ring : List S) (b p : ℕ) → p < f.burst →
-    weighed k (get_or ring ((b % f.depth + p % f.depth) % f.depth * f.burst + p) k.NOTHING) ≡ in_ring k f ring b p
-in_cell k f ring b p h =
-    ap (λ row. weighed k (get_or ring (row * f.burst + p) k.NOTHING)) (mod-add-mod b f.depth (p % f.depth))
-    ∙ sym (cond-true (ltb p f.burst) _ _ (lt-ltb p f.burst h))
+    weighed k (get_or ring (cell f (burst_of f b p) p) k.NOTHING) ≡ in_ring k f ring b p
+in_cell k f ring b p h = sym (cond-true (ltb p f.burst) _ _ (lt-ltb p f.burst h))
 
 pub returns-in-Some : goal.returns-in-Some
 returns-in-Some g c =

@@ -11,11 +11,11 @@ use Rattle.link.proofs.receiver.Receiver.decide.Goals as goal
 
 pub parity_holds-requires : goal.parity_holds-requires
 parity_holds-requires g c =
-    omega (arith, steps_within c.args.self.now.format (length c.args.paths.now) c.requires.paths)
+    omega (arith, steps_within c.args.self.now.format (length c.args.paths.now) c.requires.memory.paths)
 
 pub write_message-requires-clause-paths : goal.write_message-requires-clause-paths
 write_message-requires-clause-paths g c =
-    omega (arith, steps_within c.args.self.now.format (length c.args.paths.now) c.requires.paths)
+    omega (arith, steps_within c.args.self.now.format (length c.args.paths.now) c.requires.memory.paths)
 
 -- what was found in the ring that was made of the cells was found in the cells
 found : {C S P L : Type 0} (k : cost.Ghosts C S P) (l : line.Ghosts L) (f g : Format L) (cells cells' : List S) (b : ℕ) (report : Report C S P) (paths : List ℕ) →
