@@ -1,5 +1,5 @@
 // A receiver with the memory that its calls are lent.
-ghost use Rattle.std.specs.Prelude.{◌≡◌, IfOk};
+ghost use Rattle.std.specs.Prelude.{◌≡◌, IfOk, replicate};
 ghost use Rattle.channels.specs.Layings.{laying_line};
 ghost use Rattle.link.specs.Calls.{Steals};
 ghost use Rattle.stations.specs.Stations.{Fresh, HearsHere, MissesHere, RestartsHere};
@@ -30,10 +30,10 @@ impl<C: Cost> Station<C> {
         let needs = receiver.needs();
         Ok(Station {
             receiver,
-            ring: vec![in heap; C::NOTHING; needs.ring]?,
-            costs: vec![in heap; None; needs.costs]?,
-            paths: vec![in heap; 0; needs.paths]?,
-            block: vec![in heap; 0; needs.block]?,
+            ring: filled(heap, needs.ring, C::NOTHING)?,
+            costs: filled(heap, needs.costs, None)?,
+            paths: filled(heap, needs.paths, 0)?,
+            block: filled(heap, needs.block, 0)?,
         })
     }
 
@@ -103,4 +103,13 @@ impl<C: Cost> Station<C> {
     {
         &self.block
     }
+}
+
+// So many copies of a value. `vec!` makes clones, and a clone at a type parameter may be anything.
+fn filled<T: Copy>(heap: Global, count: usize, value: T) -> Result<Vec<T>, AllocError>
+    ensures { IfOk result (λ v. v.items ≡ replicate count value) }
+{
+    let mut items = Vec::with_capacity(heap, count)?;
+    items.resize(count, value)?;
+    Ok(items)
 }
