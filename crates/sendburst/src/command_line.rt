@@ -1,9 +1,9 @@
 // The command line: the channel, and the kind of cost that a recording is to be heard with.
 use crate::form::Form;
+use crate::names::{CHANNELS, KINDS, channel_named, kind_named};
 use anyhow::Context;
 use channels::channel::Channel;
 use clap::{Arg, ArgMatches, Command};
-use records::record::Kind;
 use std::alloc::{AllocError, Global};
 
 #[derive(Clone, Copy)]
@@ -13,8 +13,8 @@ pub(crate) struct Request {
 }
 
 pub(crate) fn command<'a>(heap: Global) -> Result<Command<'a>, AllocError> {
-    let channels: &'a [&'a str] = &["bench", "bcch", "data24", "data96"];
-    let kinds: &'a [&'a str] = &["count", "ranked"];
+    let channels: &'a [&'a str] = &CHANNELS;
+    let kinds: &'a [&'a str] = &KINDS;
     let recording = Arg::new(heap, "recording")
         .long("recording")
         .value_name("KIND")
@@ -43,22 +43,4 @@ pub(crate) fn read_request(matches: &ArgMatches<'_>) -> anyhow::Result<Request> 
         .and_then(kind_named)
         .map_or(Form::Figures, Form::Recording);
     Ok(Request { channel, form })
-}
-
-fn channel_named(name: &str) -> Option<Channel> {
-    match name {
-        "bench" => Some(Channel::Bench),
-        "bcch" => Some(Channel::Bcch),
-        "data24" => Some(Channel::Data24),
-        "data96" => Some(Channel::Data96),
-        _ => None,
-    }
-}
-
-fn kind_named(name: &str) -> Option<Kind> {
-    match name {
-        "count" => Some(Kind::Count),
-        "ranked" => Some(Kind::Ranked),
-        _ => None,
-    }
 }

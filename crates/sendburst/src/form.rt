@@ -1,4 +1,7 @@
 // How bursts are written: each as a line of figures, or all as a recording, by the clean samples of a kind of cost.
+ghost use Rattle.std.specs.Prelude.{◌≡◌, ◌++◌, OnOk};
+ghost use Rattle.sendburst.specs.Written.{clean_byte, figure_line};
+
 use channels::channel::Channel;
 use cost::count::Count;
 use cost::kind::Cost;
@@ -42,7 +45,9 @@ impl Form {
     }
 }
 
-fn put_figures(burst: &[u8], written: &mut Vec<u8>) -> Result<(), AllocError> {
+fn put_figures(burst: &[u8], written: &mut Vec<u8>) -> Result<(), AllocError>
+    ensures { OnOk result (written.new.items ≡ written.old.items ++ figure_line burst.now) }
+{
     for bit in burst {
         written.push(if *bit > 0 { b'1' } else { b'0' })?;
     }
@@ -51,7 +56,9 @@ fn put_figures(burst: &[u8], written: &mut Vec<u8>) -> Result<(), AllocError> {
 }
 
 // The byte that spells the clean sample of a bit.
-fn clean_byte(kind: Kind, bit: bool) -> u8 {
+fn clean_byte(kind: Kind, bit: bool) -> u8
+    ensures { result ≡ clean_byte kind bit }
+{
     match kind {
         Kind::Count => Count::clean_sample(bit),
         Kind::Ranked => Ranked::clean_sample(bit).cast_unsigned(),
