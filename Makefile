@@ -1,10 +1,10 @@
 # make run plays the stored recording, and then the one that sendburst writes of its stored messages; make test is the gate; make reference
-# makes the stored outputs anew, by Python 3, and compares.
+# makes the stored outputs anew, by Python 3, and compares; make memory lets each allocation of both programs fail, by Python 3 and cc.
 READBURST = crates/readburst/out/readburst
 SENDBURST = crates/sendburst/out/sendburst
 RECORDING ?= crates/readburst/stdin
 
-.PHONY: run test reference
+.PHONY: run test reference memory
 
 run: $(READBURST) $(SENDBURST)
 	@$(READBURST) < $(RECORDING)
@@ -21,3 +21,6 @@ reference:
 	python3 tools/reference.py play < crates/readburst/stdin | cmp - crates/readburst/stdout
 	python3 tools/reference.py send $$(cat crates/sendburst/args) < crates/sendburst/stdin | cmp - crates/sendburst/stdout
 	python3 tools/reference.py vectors < crates/vectors/stdin | cmp - crates/vectors/stdout
+
+memory: $(READBURST) $(SENDBURST)
+	@python3 tools/want_of_memory.py
