@@ -14,7 +14,7 @@ use Rattle.trellis.proofs.Registers.{register_length, summed_same}
 use Rattle.trellis.proofs.Soundness.{Sound}
 use Rattle.trellis.proofs.Taps.{packed, packed_below, packed_masked, window_summed}
 
--- no row taps an older bit, nor does one that is not there
+-- where all rows are below a power each is, and so is one that is not there
 row_below : (n : ℕ) (rows : List ℕ) (i : ℕ) → all_below (2 ^ n) rows ≡ true → get_or rows i 0 < 2 ^ n
 row_below n [] i below = pow_pos n
 row_below n (taps ∷ rows) zero below = ltb-true taps (2 ^ n) (and_parts (ltb taps (2 ^ n)) (all_below (2 ^ n) rows) below).0
@@ -34,7 +34,7 @@ step_begins room rows t some h =
 pub steps_fill : (room rows t : ℕ) → 0 < rows → div_ceil room rows ≤ t → room ≤ t * rows
 steps_fill room rows t some h = omega (arith, (div_ceil_times room rows some).0, mul-le (div_ceil room rows) rows t rows h (omega arith))
 
--- when as many zeros have entered as the memory has, the window is empty
+-- where the newest bits are zeros after the run's end, as many as the memory has and one more, the window is empty
 entered_closed : (run : List Bool) (m t : ℕ) → length run + m ≤ t → register (suc m) (entered run t) ≡ register (suc m) []
 entered_closed run zero zero h = ap (λ b. b ∷ []) (get_or_past run 0 false (omega arith))
 entered_closed run zero (suc t) h = ap (λ b. b ∷ []) (get_or_past run (suc t) false (omega arith))
@@ -73,14 +73,15 @@ module _ (code : Code) (run : List Bool) where
         let below : packed path < 2 ^ suc m = subst (λ n. packed path < 2 ^ n) (register_length (suc m) (entered run t)) (packed_below path) in
         omega arith
 
+    -- no row taps a bit older than a window's
+    row_short : (i : ℕ) → get_or (rows_of code) i 0 < 2 ^ suc code.memory
+    row_short i = subst (λ n. get_or (rows_of code) i 0 < 2 ^ n) (add-one code.memory) (row_below (code.memory + 1) (rows_of code) i sound.taps_below)
+
     -- the sum of a row over a window is a coded bit of its step
     row_coded : (t i : ℕ) → i < code.rows → summed (get_or code.taps i 0) (bits 8 (window_at t)) ≡ coded_bit code run (t * code.rows + i)
     row_coded t i h =
-        let m = code.memory in
-        let taps = get_or (rows_of code) i 0 in
-        let below : taps < 2 ^ suc m = subst (λ n. taps < 2 ^ n) (add-one m) (row_below (m + 1) (rows_of code) i sound.taps_below) in
         ap (λ n. summed n (bits 8 (window_at t))) (sym (get_or-take code.rows code.taps i 0 h))
-        ∙ window_summed m taps (entered run t) (omega (arith, sound.memory_few)) below
+        ∙ window_summed code.memory (get_or (rows_of code) i 0) (entered run t) (omega (arith, sound.memory_few)) (row_short i)
         ∙ sym (ap₂ (λ r s. summed (get_or (rows_of code) r 0) (entered run s)) (mod-mul-add t code.rows i h) (div-mul-add t code.rows i h))
 
     -- one step more
@@ -110,10 +111,9 @@ module _ (code : Code) (run : List Bool) where
     coded_past : (j : ℕ) → code.rows * (length run + code.memory) ≤ j → coded_bit code run j ≡ false
     coded_past j h =
         let m = code.memory in
-        let taps = get_or (rows_of code) (j % code.rows) 0 in
-        let below : taps < 2 ^ suc m = subst (λ n. taps < 2 ^ n) (add-one m) (row_below (m + 1) (rows_of code) (j % code.rows) sound.taps_below) in
-        let late : length run + m ≤ j / code.rows = le-div (length run + m) j code.rows sound.some_rows (omega (arith, mul_comm code.rows (length run + m))) in
-        summed_same (suc m) taps (entered run (j / code.rows)) [] below (entered_closed run m (j / code.rows) late)
+        let t = j / code.rows in
+        let late : length run + m ≤ t = le-div (length run + m) j code.rows sound.some_rows (omega (arith, mul_comm code.rows (length run + m))) in
+        summed_same (suc m) (get_or (rows_of code) (j % code.rows) 0) (entered run t) [] (row_short (j % code.rows)) (entered_closed run m t late)
 
     -- so coded bits that reach so far have each coded bit, those past their end too
     pub encoded_whole : (coded : List Bool) → code.rows * (length run + code.memory) ≤ length coded →

@@ -22,7 +22,7 @@ trait PlacedBits {
         ensures { result ≡ bit self.now j k turned };
 }
 
-// The coded bits of a block, before turning. Past them stand zeros.
+// The coded bits of a block, before turning. Past the last of them a code makes zeros alone.
 #[derive(Drop)]
 struct Coded<'b> {
     bits: &'b [bool],
