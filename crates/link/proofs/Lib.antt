@@ -4,7 +4,6 @@ pub mod Deciding
 pub mod FirstRule
 pub mod Judging
 pub mod KeptBursts
-pub mod Laying
 pub mod Parity
 pub mod Replies
 pub mod Rings

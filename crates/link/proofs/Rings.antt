@@ -1,11 +1,16 @@
 -- The cells of a ring: a burst that is stored stands in its own cells, and the cells of the bursts shortly before it are left.
-use Rattle.std.proofs.Common.{◌≡◌, ℕ, ◌+◌, ◌-◌, ◌*◌, ◌/◌, ◌%◌, ◌<◌, ◌≤◌, List, ◌++◌, length, get_or, take, drop, refl, ap, ◌∙◌, inl, inr, add-mul, arith}
+use Rattle.std.proofs.Common.{◌≡◌, ℕ, ◌+◌, ◌-◌, ◌*◌, ◌/◌, ◌%◌, ◌<◌, ◌≤◌, List, ◌++◌, length, get_or, take, drop, refl, ap, ◌∙◌, inl, inr, add-mul, mod-lt, mul-le-mul_right, suc-mul, arith}
 use Rattle.std.proofs.lemmas.Nat.{div-add-mod', mul-le}
 use Rattle.std.proofs.lemmas.List.{length-take-le, get_or_append_left, get_or-append_right, get_or-take, get_or-drop}
 use Rattle.std.proofs.lemmas.Bool.{cases_lt, cases_order}
 use Rattle.link.specs.declared.format.Format.{Format}
 use Rattle.link.specs.Due.{laid_at, cell, stored}
-use Rattle.link.proofs.Laying.{burst_within}
+
+-- the cells of one burst lie within a ring of `depth` bursts
+burst_within : (n depth burst : ℕ) → 1 ≤ depth → n % depth * burst + burst ≤ depth * burst
+burst_within n depth burst h =
+    let m : n % depth < depth = mod-lt n (omega arith) in
+    omega (arith, mul-le-mul_right burst m, suc-mul (n % depth) burst)
 
 -- two numbers that differ by less than d leave different remainders by d
 remainders_differ : (d i n : ℕ) → i < n → n < i + d → i % d ≡ n % d → ⊥
