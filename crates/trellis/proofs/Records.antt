@@ -1,7 +1,7 @@
 -- Places in a path record: row t begins at t * 2 ^ memory.
 use Rattle.std.proofs.Common.{◌≡◌, ℕ, suc, ◌+◌, ◌-◌, ◌*◌, ◌/◌, ◌%◌, ◌^◌, ◌<◌, ◌≤◌, ap, ◌∙◌, subst, add_comm, arith, pow_pos}
-use lib.Bits.{bit_and, bit_or, and_mask, or_shifted_r}
-use Rattle.std.proofs.lemmas.Nat.{shl_whole, mul-add-lt, mul-le, mod_below, pow-add}
+use lib.Bits.{bit_or, or_shifted_r}
+use Rattle.std.proofs.lemmas.Nat.{shl_whole, mul-add-lt, mul-le, pow-add}
 use Rattle.trellis.proofs.Bitwise.{half_below}
 
 -- the beginning of a row fits
@@ -28,18 +28,15 @@ half_register : (memory register : ℕ) → 1 ≤ memory → register < 2 ^ memo
 half_register memory register h k = let on : memory ≡ suc (memory - 1) = omega arith in half_below (memory - 1) register (subst (λ n. register < 2 ^ n) on k)
 
 -- the register a step back: the newest bit leaves, and the bit that was dropped comes back as the oldest
-pub register_back : (memory register mark : ℕ) → 1 ≤ memory → memory ≤ 4 → register < 2 ^ memory →
-    bit_or (register / 2) ((bit_and mark 1 * 2 ^ (memory - 1)) % 2 ^ 64) ≡ register / 2 + mark % 2 * 2 ^ (memory - 1)
-register_back memory register mark h k r =
-    let low : mark % 2 < 2 = mod_below mark 2 (omega arith) in
-    let shifted : (bit_and mark 1 * 2 ^ (memory - 1)) % 2 ^ 64 ≡ mark % 2 * 2 ^ (memory - 1)
-    = ap (λ n. (n * 2 ^ (memory - 1)) % 2 ^ 64) (and_mask mark 1) ∙ shl_whole (mark % 2) 1 (memory - 1) 64 low (omega arith) in
-    ap (bit_or (register / 2)) shifted ∙ or_shifted_r (mark % 2) (memory - 1) (register / 2) (half_register memory register h r) ∙ add_comm (mark % 2 * 2 ^ (memory - 1)) (register / 2)
+pub register_back : (memory register mark : ℕ) → 1 ≤ memory → memory ≤ 4 → register < 2 ^ memory → mark ≤ 1 →
+    bit_or (register / 2) ((mark * 2 ^ (memory - 1)) % 2 ^ 64) ≡ register / 2 + mark * 2 ^ (memory - 1)
+register_back memory register mark h k r b =
+    let shifted : (mark * 2 ^ (memory - 1)) % 2 ^ 64 ≡ mark * 2 ^ (memory - 1) = shl_whole mark 1 (memory - 1) 64 (omega arith) (omega arith) in
+    ap (bit_or (register / 2)) shifted ∙ or_shifted_r mark (memory - 1) (register / 2) (half_register memory register h r) ∙ add_comm (mark * 2 ^ (memory - 1)) (register / 2)
 
 -- and it is a register still
-pub register_back_below : (memory register mark : ℕ) → 1 ≤ memory → register < 2 ^ memory → register / 2 + mark % 2 * 2 ^ (memory - 1) < 2 ^ memory
-register_back_below memory register mark h r =
-    let low : mark % 2 < 2 = mod_below mark 2 (omega arith) in
+pub register_back_below : (memory register mark : ℕ) → 1 ≤ memory → register < 2 ^ memory → mark ≤ 1 → register / 2 + mark * 2 ^ (memory - 1) < 2 ^ memory
+register_back_below memory register mark h r b =
     let on : memory - 1 + 1 ≡ memory = omega arith in
-    let below = mul-add-lt (mark % 2) (2 ^ (memory - 1)) (register / 2) 2 low (half_register memory register h r) in
-    subst (λ n. register / 2 + mark % 2 * 2 ^ (memory - 1) < 2 ^ n) on (omega (arith, pow-add 2 (memory - 1) 1))
+    let below = mul-add-lt mark (2 ^ (memory - 1)) (register / 2) 2 (omega arith) (half_register memory register h r) in
+    subst (λ n. register / 2 + mark * 2 ^ (memory - 1) < 2 ^ n) on (omega (arith, pow-add 2 (memory - 1) 1))

@@ -24,7 +24,7 @@ impl Code {
             let window = window(register, entering(run, t));
             let start = t * self.rows;
             // By range, since of `chunks_mut` a proof keeps the lengths alone.
-            self.put_step(window, &mut coded[start..room.min(start + self.rows)]);
+            self.put_step(window as u8, &mut coded[start..room.min(start + self.rows)]);
             register = masked(window, self.memory);
         }
     }

@@ -4,6 +4,7 @@ ghost use Rattle.std.specs.Prelude.{◌≡◌, ℕ, ◌*◌, ◌^◌, ◌<◌, B
 ghost use Rattle.trellis.specs.Bits.{bit_of};
 ghost use Rattle.trellis.specs.Tracing.{Recorded, Headed};
 
+use crate::register::shifted_back;
 use crate::windows::Trellis;
 
 impl Trellis {
@@ -28,7 +29,7 @@ impl Trellis {
             let row = t << memory;
             let mark = paths[row + register] & 1;
             paths[row] = (register & 1) as u8;
-            register = (register >> 1) | ((mark as usize) << (memory - 1));
+            register = shifted_back(register, mark, memory);
         }
     }
 

@@ -7,5 +7,5 @@ pub returns : goal.returns
 returns c =
     let m = c.args.memory in
     let w = c.args.window in
-    let power : (1 * 2 ^ m) % 256 ≡ 2 ^ m = shl_whole 1 1 m 8 (omega arith) (omega arith) ∙ omega arith in
+    let power : (1 * 2 ^ m) % 2 ^ 64 ≡ 2 ^ m = shl_whole 1 1 m 64 (omega arith) (omega arith) ∙ omega arith in
     ap (λ n. bit_and w (n - 1)) power ∙ and_mask w m

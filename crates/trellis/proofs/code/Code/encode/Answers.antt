@@ -16,6 +16,13 @@ window-window-requires c =
     let few = window_few code (map odd c.args.run.now) (sound_parts code checked) c.loop-t.t in
     omega (arith, c.loop-t.invariant.0)
 
+pub overflow_cast-window : goal.overflow_cast-window
+overflow_cast-window c =
+    let code = c.args.self.now in
+    let checked : sound code ≡ true = search rules in
+    let few = window_few code (map odd c.args.run.now) (sound_parts code checked) c.loop-t.t in
+    omega (arith, c.loop-t.invariant.0, ap (λ b. c.loop-t.register * 2 + bit_of b) c.entering.ensures)
+
 pub loop-t-preserved : goal.loop-t-preserved
 loop-t-preserved c =
     let code = c.args.self.now in

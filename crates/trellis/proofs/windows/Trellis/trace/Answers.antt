@@ -1,8 +1,8 @@
 use Rattle.std.proofs.Common.{◌≡◌, ◌+◌, ◌-◌, ◌*◌, ◌/◌, ◌%◌, ◌^◌, ◌<◌, ◌≢◌, length, get_or, set, sym, ap, ◌∙◌, subst, ap₂, arith, get_or-set_other, pow_pos}
-use lib.Bits.{bit_and, bit_or, and_mask}
+use lib.Bits.{bit_and, and_mask}
 use Rattle.trellis.specs.Bits.{odd, bit_of}
 use Rattle.trellis.proofs.Bitwise.{bit_of_odd}
-use Rattle.trellis.proofs.Records.{row_exact, row_within, register_back, register_back_below}
+use Rattle.trellis.proofs.Records.{row_exact, row_within, register_back_below}
 use Rattle.trellis.proofs.Tracebacks.{Back, back_more, back_all}
 use Rattle.trellis.proofs.Soundness.{sound_parts}
 use Rattle.trellis.proofs.windows.Trellis.trace.Goals as goal
@@ -23,9 +23,9 @@ loop-t-preserved c =
     = ap (λ n. get_or xs (n + r) 0) row ∙ c.loop-t.invariant.1 (t * 2 ^ m + r) (row_within m c.loop-t.t t r (omega arith) c.loop-t.invariant.0) in
     let low : bit_and r 1 ≡ bit_of (odd r) = and_mask r 1 ∙ sym (bit_of_odd r) in
     let written : set xs ((t * 2 ^ m) % 2 ^ 64) (bit_and r 1) ≡ set xs (t * 2 ^ m) (bit_of (odd r)) = ap₂ (set xs) row low in
-    let back : bit_or (r / 2) ((bit_and (get_or xs ((t * 2 ^ m) % 2 ^ 64 + r) 0) 1 * 2 ^ (m - 1)) % 2 ^ 64) ≡ r / 2 + mark % 2 * 2 ^ (m - 1)
-    = ap (λ n. bit_or (r / 2) ((bit_and n 1 * 2 ^ (m - 1)) % 2 ^ 64)) read ∙ register_back m r mark parts.some_memory parts.memory_few c.loop-t.invariant.0 in (
-      subst (λ n. n < 2 ^ m) (sym back) (register_back_below m r mark parts.some_memory c.loop-t.invariant.0),
+    let back : c.shifted_back-register.result ≡ r / 2 + mark % 2 * 2 ^ (m - 1)
+    = c.shifted_back-register.ensures ∙ ap (λ n. r / 2 + n * 2 ^ (m - 1)) (ap (λ n. bit_and n 1) read ∙ and_mask mark 1) in (
+      subst (λ n. n < 2 ^ m) (sym back) (register_back_below m r (mark % 2) parts.some_memory c.loop-t.invariant.0 (omega arith)),
       (λ k h. let ne : k ≢ t * 2 ^ m = omega arith in
           let earlier : k < c.loop-t.t * 2 ^ m = omega (arith, row_within m c.loop-t.t t 0 (omega arith) (pow_pos m)) in
           ap (λ l. get_or l k 0) written ∙ get_or-set_other xs (t * 2 ^ m) k (bit_of (odd r)) 0 ne ∙ c.loop-t.invariant.1 k earlier),
