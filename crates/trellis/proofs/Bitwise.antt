@@ -2,7 +2,6 @@
 use Rattle.std.proofs.Common.{◌≡◌, ℕ, suc, ◌+◌, ◌*◌, ◌/◌, ◌%◌, ◌^◌, ◌<◌, min, Bool, true, false, not, ◌&&◌, eqb, List, [], ◌∷◌, map, sym, refl, ap, ◌∙◌, subst, ap₂, inl, inr, arith}
 use lib.Bits.{bit_xor, xor_mod}
 use lib.Count.{ones}
-use mir.Val.{bool_byte}
 use Rattle.std.proofs.lemmas.Nat.{mod-mul-add, shr_below}
 use Rattle.std.proofs.lemmas.Bool.Decides.{eqb_tells, nat_tests}
 use Rattle.trellis.specs.Bits.{odd, xor, bit_of}
@@ -92,11 +91,6 @@ pub odd_xor : (u v : ℕ) → odd (bit_xor u v) ≡ xor (odd u) (odd v)
 odd_xor u v =
     ap (λ r. eqb r 1) (xor_mod u v 1 ∙ ap₂ bit_xor (sym (bit_of_odd u)) (sym (bit_of_odd v)) ∙ sym (bit_of_xor (odd u) (odd v)))
     ∙ bit_is (xor (odd u) (odd v))
-
--- a bool's byte is its bit
-pub byte_bit : (b : Bool) → bool_byte b ≡ bit_of b
-byte_bit true = refl
-byte_bit false = refl
 
 -- half of a number of one bit more
 pub half_below : (m n : ℕ) → n < 2 ^ suc m → n / 2 < 2 ^ m

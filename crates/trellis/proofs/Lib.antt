@@ -7,6 +7,7 @@ pub mod Divisions
 pub mod Encoding
 pub mod Growing
 pub mod Leasts
+pub mod Meeting
 pub mod Numbers
 pub mod Parities
 pub mod Passing

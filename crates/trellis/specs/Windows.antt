@@ -53,6 +53,11 @@ module _ {C S P : Type 0} (k : Ghosts C S P) where
   lifted None = None
   lifted (Some x) = Some (k.lift x)
 
+  -- a cost goes on into a cell that is free, or that holds a dearer one
+  abbrev pub enters : Option P → C → Bool
+  enters None c = true
+  enters (Some x) c = not (k.le (k.lift x) c)
+
   -- before the first step only the empty register is reached, at no cost
   abbrev pub first_cell : ℕ → Option P
   first_cell s = cond (s == 0) (Some (k.lay k.ZERO)) None

@@ -4,9 +4,10 @@ ghost use Rattle.trellis.specs.Bits.{xor};
 ghost use Rattle.trellis.specs.Cells.{Cells, Marked, MarkedBelow, cost_kept, kept_at};
 ghost use Rattle.trellis.specs.Codes.{rows_of};
 ghost use Rattle.trellis.specs.Met.{read};
-ghost use Rattle.trellis.specs.Windows.{Chosen, ChosenMarks, Grown, LaidLower, MarkedLower, Spread, Whole, first_cell, laid, lower, second_kept, window_cost};
+ghost use Rattle.trellis.specs.Windows.{Chosen, ChosenMarks, Grown, LaidLower, MarkedLower, Spread, Whole, enters, first_cell};
 
 use crate::received::{Received, weighed};
+use crate::register::{dropped, masked, register_before};
 use crate::windows::Trellis;
 use cost::kind::{Cost, MOST_WINDOWS};
 use std::mem::swap;
@@ -42,51 +43,46 @@ fn grow_row<C: Cost>(costs: &mut [C], bits: &[bool; MOST_WINDOWS], sample: C::Sa
     }
 }
 
-// The cost of a window, if a path has reached its old register.
-fn window_cost<C: Cost>(old: &[Option<C::Plain>], costs: &[C], w: usize) -> Option<C>
-    requires { (w / 2 < length old.now) × (w < length costs.now) }
-    ensures { result ≡ window_cost C.Cost old.now costs.now w }
+// No path has reached any register yet.
+fn clear<P: Copy>(new: &mut [Option<P>], marks: &mut [u8])
+    ensures cells { (s : ℕ) → s < length new.old → slice_index_or new.new s None ≡ None }
+    ensures marks { (s : ℕ) → s < length marks.old → slice_index marks.new s ≡ 0 }
 {
-    let cell = old[w / 2];
-    let cost = costs[w];
-    cell.map(|_| cost)
+    new.fill(None);
+    marks.fill(0);
 }
 
-// Of two costs that meet the lower laid down, and whether it is the second.
-fn lower_of<C: Cost>(first: Option<C>, second: Option<C>) -> (Option<C::Plain>, bool)
-    ensures { (result.0 ≡ laid C.Cost (lower C.Cost first second)) × (result.1 ≡ second_kept C.Cost first second) }
+// Whether a path goes on into a cell: where another has come before the two meet, and that one stays unless it is dearer.
+fn enters<C: Cost>(cell: Option<C::Plain>, cost: C) -> bool
+    ensures { result ≡ enters C.Cost cell cost }
 {
-    match (first, second) {
-        (Some(a), Some(b)) => {
-            if a.at_most(b) {
-                (Some(a.to_plain()), false)
-            } else {
-                (Some(b.to_plain()), true)
-            }
-        }
-        (Some(a), None) => (Some(a.to_plain()), false),
-        (None, Some(b)) => (Some(b.to_plain()), true),
-        (None, None) => (None, false),
+    match cell {
+        None => true,
+        Some(plain) => !C::of_plain(plain).at_most(cost),
     }
 }
 
-// Each register keeps the lower of its two windows, where any may be unreached.
+// Each register keeps the lower of its two windows, where any may be unreached: in the order of the windows, each path goes on into the
+// register of its window, and the first of two that meet is the one that drops a 0.
 fn meet_reached<C: Cost>(
+    memory: usize,
     old: &[Option<C::Plain>],
     costs: &[C],
     new: &mut [Option<C::Plain>],
     marks: &mut [u8],
 )
+    requires wide { (memory ≤ 4) × (length old.now ≡ 2 ^ memory) }
     requires room { (length costs.now ≡ 2 * length old.now) × ((length new.old ≡ length old.now) × (length marks.old ≡ length old.now)) }
     ensures cells { LaidLower C.Cost old.now costs.now new.new }
     ensures marks { MarkedLower C.Cost old.now costs.now marks.new }
 {
-    for (s, mark) in marks.iter_mut().enumerate() {
-        let first = window_cost::<C>(old, costs, s);
-        let second = window_cost::<C>(old, costs, s + old.len());
-        let (cell, is_second) = lower_of::<C>(first, second);
-        new[s] = cell;
-        *mark = is_second as u8;
+    clear::<C::Plain>(new, marks);
+    for (window, &cost) in costs.iter().enumerate() {
+        let register = masked(window, memory);
+        if old[register_before(window)].is_some() && enters::<C>(new[register], cost) {
+            new[register] = Some(cost.to_plain());
+            marks[register] = dropped(window, memory);
+        }
     }
 }
 
@@ -122,12 +118,14 @@ fn lay_down<C: Cost>(costs: &[C], new: &mut [Option<C::Plain>])
 // flag of all cells: the loop without tests is what makes the pass fast.
 fn meet<C: Cost>(
     whole: bool,
+    memory: usize,
     old: &[Option<C::Plain>],
     costs: &mut [C],
     new: &mut [Option<C::Plain>],
     marks: &mut [u8],
 )
     requires room { (length costs.old ≡ 2 * length old.now) × ((length new.old ≡ length old.now) × (length marks.old ≡ length old.now)) }
+    requires wide { (memory ≤ 4) × (length old.now ≡ 2 ^ memory) }
     requires whole { whole ≡ true → Whole old.now }
     ensures cells { LaidLower C.Cost old.now costs.old new.new }
     ensures marks { MarkedLower C.Cost old.now costs.old marks.new }
@@ -136,7 +134,7 @@ fn meet<C: Cost>(
         choose::<C>(costs, marks);
         lay_down::<C>(costs, new);
     } else {
-        meet_reached::<C>(old, costs, new, marks);
+        meet_reached::<C>(memory, old, costs, new, marks);
     }
 }
 
@@ -193,7 +191,7 @@ impl Trellis {
         let costs = &mut windows[..2 * old.len()];
         let whole = spread::<C>(old, costs);
         self.grow_rows::<C, H>(t, heard, costs);
-        meet::<C>(whole, old, costs, new, marks);
+        meet::<C>(whole, self.code.memory, old, costs, new, marks);
     }
 
     // All the steps of a block. The two rows of cells are the halves of the lent memory, and change roles with each step.

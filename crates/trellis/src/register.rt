@@ -10,12 +10,27 @@ pub(crate) fn window(register: usize, bit: bool) -> usize
     (register << 1) | bit as usize
 }
 
+// The register that a window comes from.
+pub(crate) fn register_before(window: usize) -> usize
+    ensures { result ≡ window / 2 }
+{
+    window >> 1
+}
+
 // Masks a window: the register after the step, without the bit that is older than the memory.
 pub(crate) fn masked(window: usize, memory: usize) -> usize
     requires { memory ≤ 4 }
     ensures { result ≡ window % 2 ^ memory }
 {
     window & ((1 << memory) - 1)
+}
+
+// The oldest bit of a window, which the mask drops.
+pub(crate) fn dropped(window: usize, memory: usize) -> u8
+    requires { (memory ≤ 4) × (window < 2 * 2 ^ memory) }
+    ensures { result ≡ window / 2 ^ memory }
+{
+    (window >> memory) as u8
 }
 
 // A step back: shifts the newest bit out, and puts the bit that was dropped back as the oldest.

@@ -1,23 +1,43 @@
-use Rattle.std.proofs.Common.{◌<◌, ◌≢◌, length, None, ap, ◌∙◌, ap₂, arith, get_or-set_other, get_or-set_same, below_more}
-use mir.Val.{bool_byte}
-use Rattle.trellis.specs.Bits.{bit_of}
-use Rattle.trellis.specs.Windows.{laid, lower, second_kept}
-use Rattle.trellis.proofs.Bitwise.{byte_bit}
+use Rattle.std.proofs.Common.{◌≡◌, ◌+◌, ◌*◌, ◌/◌, ◌%◌, ◌<◌, length, get_or, set, Some, None, sym, ap, ◌∙◌, ap₂, arith}
+use Rattle.std.proofs.lemmas.List.{get_or_read}
+use Rattle.std.specs.Option.{is_some}
+use Rattle.trellis.specs.Windows.{enters}
+use Rattle.trellis.proofs.Meeting.{met_same, passes, stays, goes_on}
 use Rattle.trellis.proofs.forward.meet_reached.Goals as goal
+use Rattle.trellis.proofs.forward.meet_reached.Goals.{then-is_some+then-enters, else-is_some, else-is_some-via-then-is_some+else-enters, else-is_some-via-else-is_some}
 
-pub loop-s-preserved : goal.loop-s-preserved
-loop-s-preserved g c =
+pub loop-window-preserved : goal.loop-window-preserved
+loop-window-preserved g c =
     let k = g.C.Cost in
-    let s = c.loop-s.s in
-    let kept = c.lower_of-cell.result in
-    let here : s < length c.loop-s.new = omega arith in
-    let there : s < length c.loop-s.marks = omega arith in (
-      below_more _ _
-          (λ v h. let ne : v ≢ s = omega arith in get_or-set_other c.loop-s.new s v kept.0 None ne ∙ c.loop-s.invariant.0 v h)
-          (get_or-set_same c.loop-s.new s kept.0 None here ∙ c.lower_of-cell.ensures.0
-          ∙ ap₂ (λ a b. laid k (lower k a b)) c.window_cost-first.ensures c.window_cost-second.ensures),
-      below_more _ _
-          (λ v h. let ne : v ≢ s = omega arith in get_or-set_other c.loop-s.marks s v (bool_byte kept.1) 0 ne ∙ c.loop-s.invariant.1 v h)
-          (get_or-set_same c.loop-s.marks s (bool_byte kept.1) 0 there ∙ byte_bit kept.1 ∙ ap bit_of c.lower_of-cell.ensures.1
-          ∙ ap₂ (λ a b. bit_of (second_kept k a b)) c.window_cost-first.ensures c.window_cost-second.ensures),
-    )
+    let lifts = g.met.C.Cost.laid in
+    let old = c.args.old.now in
+    let costs = c.args.costs.now in
+    let cells = c.loop-window.new in
+    let marks = c.loop-window.marks in
+    let w = c.loop-window.window in
+    let within : w < 2 * length old = omega arith in
+    let cost : c.index-costs-window.result ≡ get_or costs w k.ZERO = get_or_read costs w c.index-costs-window.result (omega arith) c.index-costs-window.is k.ZERO in
+    let before : c.index-old-register_before.result ≡ get_or old (w / 2) None
+    = get_or_read old c.register_before.result c.index-old-register_before.result (omega arith) c.index-old-register_before.is None ∙ ap (λ n. get_or old n None) c.register_before.ensures in
+    let reached = ap is_some (sym before) ∙ sym c.is_some.ensures in
+    let register : c.masked-register.result ≡ w % length old = c.masked-register.ensures ∙ ap (λ n. w % n) (sym c.requires.wide.1) in
+    elim c.if-is_some.branch [
+      | then-is_some+then-enters v ↦
+          let cell : v.index-new-register.result ≡ get_or cells (w % length old) None
+          = get_or_read cells c.masked-register.result v.index-new-register.result (omega arith) v.index-new-register.is None ∙ ap (λ n. get_or cells n None) register in
+          let goes = ap₂ (λ x y. enters k x y) (sym cell) (sym cost) ∙ sym v.enters.ensures ∙ v.if-enters.true in
+          met_same k old costs (w + 1)
+          (v.new-is ∙ ap₂ (λ r x. set cells r (Some x)) register (v.to_plain.ensures ∙ ap k.lay cost))
+          (v.marks-is ∙ ap₂ (set marks) register (v.dropped.ensures ∙ ap (λ n. w / n) (sym c.requires.wide.1)))
+          (goes_on k old costs w lifts (reached ∙ v.if-is_some.true) within cells marks (omega arith) (omega arith) goes c.loop-window.invariant)
+      | else-is_some v ↦
+          elim v.else-is_some.branch [
+            | else-is_some-via-then-is_some+else-enters u ↦
+                let cell : u.index-new-register.result ≡ get_or cells (w % length old) None
+                = get_or_read cells c.masked-register.result u.index-new-register.result (omega arith) u.index-new-register.is None ∙ ap (λ n. get_or cells n None) register in
+                let out = ap₂ (λ x y. enters k x y) (sym cell) (sym cost) ∙ sym u.enters.ensures ∙ u.if-enters.false in
+                met_same k old costs (w + 1) v.new-is v.marks-is (stays k old costs w lifts (reached ∙ u.if-is_some.true) within cells marks out c.loop-window.invariant)
+            | else-is_some-via-else-is_some u ↦
+                met_same k old costs (w + 1) v.new-is v.marks-is (passes k old costs w cells marks (reached ∙ u.if-is_some.false) c.loop-window.invariant)
+          ]
+    ]
