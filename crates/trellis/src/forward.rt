@@ -7,7 +7,7 @@ ghost use Rattle.trellis.specs.Met.{read};
 ghost use Rattle.trellis.specs.Windows.{Chosen, ChosenMarks, Grown, LaidLower, MarkedLower, Spread, Whole, enters, first_cell};
 
 use crate::received::{Received, weighed};
-use crate::register::{dropped, masked, register_before};
+use crate::register::{dropped, masked, register_before, window};
 use crate::windows::Trellis;
 use cost::kind::{Cost, MOST_WINDOWS};
 use std::mem::swap;
@@ -15,6 +15,7 @@ use std::mem::swap;
 // Takes up each register's cost into both its windows, and tells whether every register was reached.
 fn spread<C: Cost>(old: &[Option<C::Plain>], costs: &mut [C]) -> bool
     requires room { length costs.old ≡ 2 * length old.now }
+    requires few { length costs.old ≤ MOST_WINDOWS }
     ensures costs { Spread C.Cost old.now costs.new }
     ensures whole { result ≡ true → Whole old.now }
 {
@@ -23,8 +24,8 @@ fn spread<C: Cost>(old: &[Option<C::Plain>], costs: &mut [C]) -> bool
         match cell {
             Some(plain) => {
                 let cost = C::of_plain(plain);
-                costs[2 * p] = cost;
-                costs[2 * p + 1] = cost;
+                costs[window(p, false)] = cost;
+                costs[window(p, true)] = cost;
             }
             None => whole = false,
         }

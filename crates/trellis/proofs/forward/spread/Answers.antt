@@ -1,4 +1,4 @@
-use Rattle.std.proofs.Common.{◌≡◌, ℕ, ◌/◌, true, false, get_or, Some, None, sym, ap, ◌∙◌, inl, inr, arith}
+use Rattle.std.proofs.Common.{◌≡◌, ℕ, ◌+◌, ◌*◌, ◌/◌, true, false, get_or, set, Some, None, sym, ap, ◌∙◌, inl, inr, arith}
 use Rattle.std.proofs.lemmas.List.{get_or_read}
 use Rattle.std.proofs.lemmas.Bool.{cases_eq}
 use Rattle.trellis.proofs.Numbers.{window_written, window_other}
@@ -14,12 +14,15 @@ loop-p-preserved g c =
     let cell : c.index-old-p.result ≡ get_or old p None = get_or_read old p c.index-old-p.result c.loop-p-test.true c.index-old-p.is None in
     elim c.match-cell.branch [
       | in-Some w ↦ let cost = w.of_plain-cost.result in
-          let here : get_or old p None ≡ Some w.in-Some.plain = sym cell ∙ w.in-Some.is in (
+          let here : get_or old p None ≡ Some w.in-Some.plain = sym cell ∙ w.in-Some.is in
+          let first : w.window.result ≡ 2 * p = omega (arith, w.window.ensures) in
+          let second : w.window-in-Some.result ≡ 2 * p + 1 = omega (arith, w.window-in-Some.ensures) in
+          let is = w.costs-is ∙ (λ i. set (set costs (first i) cost) (second i) cost) in (
             λ v x h e. elim (cases_eq (v / 2) p) [
               | inl f ↦ let same : x ≡ w.in-Some.plain = let d : Some x ≡ Some w.in-Some.plain = sym e ∙ ap (λ q. get_or old q None) f ∙ here in cc in
-                  ap (λ cs. get_or cs v k.ZERO) w.costs-is ∙ window_written costs p v cost k.ZERO (omega arith) f
+                  ap (λ cs. get_or cs v k.ZERO) is ∙ window_written costs p v cost k.ZERO (omega arith) f
                   ∙ w.of_plain-cost.ensures ∙ ap k.lift (sym same)
-              | inr f ↦ ap (λ cs. get_or cs v k.ZERO) w.costs-is ∙ window_other costs p v cost k.ZERO f ∙ c.loop-p.invariant.0 v x (omega arith) e
+              | inr f ↦ ap (λ cs. get_or cs v k.ZERO) is ∙ window_other costs p v cost k.ZERO f ∙ c.loop-p.invariant.0 v x (omega arith) e
             ],
             λ t q h e. elim (cases_eq q p) [
               | inl f ↦ let d : None ≡ Some w.in-Some.plain = sym e ∙ ap (λ r. get_or old r None) f ∙ here in let z : ◌≡◌ {A = ℕ} 0 1 = cc in absurd (omega arith)
