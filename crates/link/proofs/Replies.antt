@@ -15,7 +15,7 @@ use Rattle.link.specs.declared.report.Report.{Report}
 use Rattle.link.specs.Calls.{Memory, right, Reply, cost_due, Decides, Waits, Takes}
 use Rattle.link.specs.Due.{stored, in_ring, heard_of}
 use Rattle.link.specs.Histories.{counts, Best}
-use Rattle.link.specs.Outcomes.{Outcome, tells_burst, tells_block, refused, outcome}
+use Rattle.link.specs.Outcomes.{Outcome, tells_burst, tells_block, of_refusal, outcome}
 use Rattle.link.specs.Refusals.{Told, tells, told, refusal}
 use Rattle.link.proofs.Best.{best}
 use Rattle.link.proofs.FirstRule.{Uncounted, some_none}
@@ -24,14 +24,19 @@ use Rattle.link.proofs.Parity.{Widths}
 
 module _ {C S P : Type 0} where
   -- a refusal tells of a block where it is of parity
-  refused_parity : (x : Refusal (Report C S P)) (o : Outcome C) → refused x ≡ Some o → told x ≡ tells 11 Air 0
+  refused_parity : (x : Refusal (Report C S P)) (o : Outcome C) → of_refusal x ≡ Some o → told x ≡ tells 11 Air 0
   refused_parity (WrongParity report) o e = refl
   refused_parity _ o e = absurd (some_none (sym e))
 
   -- and of none where it is not
-  refused_untold : (x : Refusal (Report C S P)) → Uncounted (told x) → refused x ≡ None
+  refused_untold : (x : Refusal (Report C S P)) → Uncounted (told x) → of_refusal x ≡ None
   refused_untold (WrongParity report) other = absurd (both_ways true other refl)
   refused_untold _ other = refl
+
+  -- none tells a burst
+  no_burst : (x : Refusal (Report C S P)) (n : ℕ) → of_refusal x ≡ Some (tells_burst n) → ⊥
+  no_burst (WrongParity report) n e = let z : ◌≡◌ {A = ℕ} 0 1 = cc in omega arith
+  no_burst _ n e = some_none (sym e)
 
 module _ {C S P L : Type 0} (k : cost.Ghosts C S P) (l : line.Ghosts L) where
   -- a reply that tells something counts the burst
@@ -39,7 +44,12 @@ module _ {C S P L : Type 0} (k : cost.Ghosts C S P) (l : line.Ghosts L) where
   told_counts (Ok answer) o e = refl
   told_counts (Err x) o e = ap (λ t. eqb t.number 11) (refused_parity x o e)
 
-  -- one that is refused, and not for parity, does not
+  -- one that tells a burst refuses nothing
+  burst_accepted : (reply : Reply k l) (n : ℕ) → outcome reply ≡ Some (tells_burst n) → refusal reply ≡ None
+  burst_accepted (Ok answer) n e = refl
+  burst_accepted (Err x) n e = absurd (no_burst x n e)
+
+  -- one that is refused, and not for parity, does not count it
   pub refused_counts : (reply : Reply k l) (t : Told) → Uncounted t → refusal reply ≡ Some t → counts k l reply ≡ false
   refused_counts (Ok answer) t other e = absurd (some_none (sym e))
   refused_counts (Err x) t other e = let same : told x ≡ t = cc in ap (λ u. eqb u.number 11) same ∙ other
@@ -63,7 +73,7 @@ module _ {C S P L : Type 0} (k : cost.Ghosts C S P) (l : line.Ghosts L) where
       subst (λ c. Taken f c samples m reply m') count
       (subst (λ g. Taken g r.counted samples m reply m') same (record {
         ring = t.ring;
-        waits = λ h. let w = t.counts.waits h in record { told = w.told; accepted = w.accepted; costs = w.costs; paths = w.paths; block = w.block };
+        waits = λ h. let w = t.counts.waits h in record { told = w.told; costs = w.costs; paths = w.paths; block = w.block };
         decides = t.counts.decides;
         frees = t.counts.frees;
       }))
@@ -77,7 +87,7 @@ module _ {C S P L : Type 0} (k : cost.Ghosts C S P) (l : line.Ghosts L) where
   -- one of them is given
   pub replied : (f : Format L) (n : ℕ) (samples : List S) (m m' : Memory S P) (reply : Reply k l) → Taken f n samples m reply m' → Replied f n reply
   replied f n samples m m' reply t = elim (cases_lt (n + 1) f.depth) [
-    | inl h ↦ let w = t.waits h in waiting h w.told w.accepted
+    | inl h ↦ let told = (t.waits h).told in waiting h told (burst_accepted reply n told)
     | inr h ↦ by_parity h (t.decides h)
   ]
     where

@@ -17,7 +17,7 @@ use Rattle.link.specs.declared.refusal.Refusal.{Refusal}
 use Rattle.link.specs.declared.report.Answer.{Answer}
 use Rattle.link.specs.declared.report.Report.{Report}
 use Rattle.link.specs.Due.{stored, met_on, in_ring, heard_of}
-use Rattle.link.specs.Outcomes.{Outcome, tells_burst, tells_block, reported, outcome}
+use Rattle.link.specs.Outcomes.{Outcome, tells_burst, tells_block, of_report, outcome}
 use Rattle.link.specs.Refusals.{Told, tells, refusal}
 use Rattle.link.specs.Rules.{first, steps, hear_rules, miss_rules, stolen_rules}
 
@@ -76,7 +76,7 @@ module _ {C S P L : Type 0} (k : cost.Ghosts C S P) (l : line.Ghosts L) where
     pub record Finds (b : ℕ) (report : Report C S P) (paths : List ℕ) : Type 0 where
       pub path : List Bool
       pub answered : answer_due ≡ Some path
-      pub told : reported report ≡ told_of b path
+      pub told : of_report report ≡ told_of b path
       pub traced : take (steps f) paths ≡ map bit_of (reverse path)
 
     -- block b is decided: the rule's answer is told, and it is refused where its parity is wrong
@@ -96,7 +96,6 @@ module _ {C S P L : Type 0} (k : cost.Ghosts C S P) (l : line.Ghosts L) where
   -- burst n is told, and nothing of the memory but the ring is touched
   pub record Waits (n : ℕ) (m : Memory S P) (reply : Reply) (m' : Memory S P) : Type 0 where
     pub told : outcome reply ≡ Some (tells_burst n)
-    pub accepted : refusal reply ≡ None
     pub costs : m'.costs ≡ m.costs
     pub paths : m'.paths ≡ m.paths
     pub block : m'.block ≡ m.block

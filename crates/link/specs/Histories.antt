@@ -10,8 +10,8 @@ use Rattle.link.specs.declared.receiver.Receiver.{Receiver}
 use Rattle.link.specs.declared.refusal.Group.TheVariants.{Host, Air}
 use Rattle.link.specs.declared.refusal.Refusal.{Refusal}
 use Rattle.link.specs.declared.report.Report.{Report}
-use Rattle.link.specs.Calls.{Memory, sizes, right, Reply, cost_due, answer_due, Hears, Misses, Waits, Steals, Restarts, silence}
-use Rattle.link.specs.Due.{in_bursts, heard_of}
+use Rattle.link.specs.Calls.{Memory, sizes, right, Reply, cost_due, answer_due, told_of, Hears, Misses, Waits, Steals, Restarts, silence}
+use Rattle.link.specs.Due.{in_bursts}
 use Rattle.link.specs.Outcomes.{tells_burst, tells_block, outcome}
 use Rattle.link.specs.Refusals.{Told, tells, told, refusal}
 use Rattle.link.specs.Rules.{first, hear_rules, miss_rules}
@@ -53,7 +53,7 @@ module _ {C S P L : Type 0} (k : cost.Ghosts C S P) (l : line.Ghosts L) where
     pub least : (rival : List Bool) → length rival ≡ f.message + f.parity →
         k.le (cost_due k l f (in_bursts k f bursts b) path) (cost_due k l f (in_bursts k f bursts b) (replicate f.code.memory false ++ reverse rival)) ≡ true
     -- the block is told by its number, with the path's own cost and the count of the samples heard
-    pub told : outcome reply ≡ Some (tells_block b (cost_due k l f (in_bursts k f bursts b) path) (heard_of k (in_bursts k f bursts b) f.burst))
+    pub told : outcome reply ≡ Some (told_of k l f (in_bursts k f bursts b) b path)
     -- with parity right the run is a message and its parity; it is reported, and the message written
     pub reported : right f path ≡ true →
         (run ≡ run_of f (take f.message run)) × (refusal reply ≡ None) × (block' ≡ map bit_of (take f.message run) ++ drop f.message block)

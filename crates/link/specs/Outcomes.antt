@@ -13,19 +13,19 @@ pub data Outcome (C : Type 0) : Type 0 where
   tells_block : (block : ℕ) (cost : C) (heard : ℕ) → Outcome C
 
 module _ {C S P : Type 0} where
-  abbrev pub reported : Report C S P → Outcome C
-  reported report = tells_block report.block report.cost report.heard
+  abbrev pub of_report : Report C S P → Outcome C
+  of_report report = tells_block report.block report.cost report.heard
 
-  abbrev pub answered : Answer C S P → Outcome C
-  answered (Waiting burst) = tells_burst burst
-  answered (Block report) = reported report
+  abbrev pub of_answer : Answer C S P → Outcome C
+  of_answer (Waiting burst) = tells_burst burst
+  of_answer (Block report) = of_report report
 
   -- a refusal counts no burst, but for that of parity, which tells of the block that it refuses
-  abbrev pub refused : Refusal (Report C S P) → Option (Outcome C)
-  refused (WrongParity report) = Some (reported report)
-  refused _ = None
+  abbrev pub of_refusal : Refusal (Report C S P) → Option (Outcome C)
+  of_refusal (WrongParity report) = Some (of_report report)
+  of_refusal _ = None
 
   -- what a reply to hear or miss tells of its burst, if it counts it
   abbrev pub outcome : Result (Answer C S P) (Refusal (Report C S P)) → Option (Outcome C)
-  outcome (Ok answer) = Some (answered answer)
-  outcome (Err refusal) = refused refusal
+  outcome (Ok answer) = Some (of_answer answer)
+  outcome (Err x) = of_refusal x

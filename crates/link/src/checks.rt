@@ -5,13 +5,13 @@ ghost use Rattle.link.specs.Rules.{enough, room, unless};
 
 use crate::refusal::Refusal;
 
-const MOST_BURSTS: usize = 1_000_000;
+pub(crate) const MOST_BURSTS: usize = 1_000_000;
 
-// Passes where a rule holds, and refuses by it where it is broken.
-pub(crate) fn unless<B: Copy>(holds: bool, rule: Refusal<B>) -> Result<(), Refusal<B>>
-    ensures { refusal result ≡ unless holds (told rule) }
+// Passes where a rule holds, and refuses for the reason given where it is broken.
+pub(crate) fn unless<B: Copy>(holds: bool, reason: Refusal<B>) -> Result<(), Refusal<B>>
+    ensures { refusal result ≡ unless holds (told reason) }
 {
-    if holds { Ok(()) } else { Err(rule) }
+    if holds { Ok(()) } else { Err(reason) }
 }
 
 // Passes where as much memory is lent as is asked for.

@@ -2,6 +2,7 @@
 ghost use Rattle.std.specs.Prelude.{◌≡◌, ◌≤◌, length};
 ghost use Rattle.link.specs.Due.{met_on, in_ring, heard_of};
 ghost use Rattle.link.specs.Calls.{Finds};
+ghost use Rattle.link.specs.declared.checks.TheConstants.{MOST_BURSTS};
 ghost use Rattle.link.specs.Rules.{needed};
 
 use crate::report::Report;
@@ -15,7 +16,8 @@ use trellis::received::{Received, weighed};
 pub(crate) struct Due<'r, 'a, 'f, C: Cost, L: Line> {
     pub(crate) ring: &'r Ring<'a, 'f, C::Sample, L>,
     pub(crate) block: usize,
-    ghost few: { block ≤ 1000000 },
+    // So that the number of a burst is a number of the machine.
+    ghost few: { block ≤ MOST_BURSTS },
 }
 
 impl<'r, 'a, 'f, C: Cost, L: Line> Due<'r, 'a, 'f, C, L> {

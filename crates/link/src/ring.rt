@@ -3,6 +3,7 @@ ghost use Rattle.std.specs.Prelude.{◌≡◌, ◌+◌, ◌*◌, ◌<◌, ◌≤
 ghost use Rattle.link.specs.Due.{cell, laid_at, stored};
 
 use crate::format::Format;
+use crate::format::agree::MOST_BURST;
 
 // A ring over cells that are lent: which of them are a burst's is told here, and what is done to them by functions over the slice.
 #[derive(Drop)]
@@ -76,7 +77,7 @@ impl<'a, 'f, S: Copy, L> Ring<'a, 'f, S, L> {
 
     // Sample k of burst n, if the ring reaches so far.
     pub(crate) fn sample(&self, n: usize, k: usize) -> Option<S>
-        requires { k < 1024 }
+        requires { k < MOST_BURST }
         ensures { (past : S) → unwrap_or result past ≡ slice_index_or self.now.cells.now (cell self.now.format.now n k) past }
     {
         read(self.start(n) + k, self.cells)

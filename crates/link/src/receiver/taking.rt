@@ -6,6 +6,7 @@ ghost use Rattle.link.specs.Due.{in_ring};
 ghost use Rattle.link.specs.Rules.{Suffices, steps};
 
 use super::Receiver;
+use crate::checks::MOST_BURSTS;
 use crate::due::Due;
 use crate::format::Format;
 use crate::memory::Memory;
@@ -47,7 +48,7 @@ impl<C: Cost, L: Line> Receiver<C, L> {
         paths: &mut [u8],
         block: &mut [u8],
     ) -> Result<Answer<C>, Refusal<Report<C>>>
-        requires number { number ≤ 1000000 }
+        requires number { number ≤ MOST_BURSTS }
         requires memory { Suffices self.now.format (length costs.old) (length paths.old) (length block.old) }
         ensures decided { Decides C.Cost L.Line self.now.format (in_ring C.Cost self.now.format ring.old number) number block.old result block.new }
         ensures ring { ring.new ≡ ring.old }
@@ -68,7 +69,7 @@ impl<C: Cost, L: Line> Receiver<C, L> {
     // Counts the burst that was stored, and decides the block that it ends.
     pub(super) fn count(&mut self, memory: &mut Memory<C>) -> Result<Answer<C>, Refusal<Report<C>>>
         requires memory { Suffices self.old.format (length memory.old.costs.now) (length memory.old.paths.now) (length memory.old.block.now) }
-        requires room { self.old.counted < 1000000 }
+        requires room { self.old.counted < MOST_BURSTS }
         ensures counted { Counts C.Cost L.Line self.old (lent memory.old) result self.new (lent memory.new) }
         ensures ring { memory.new.ring.now ≡ memory.old.ring.now }
         ensures loans { SameLoans memory.old memory.new }

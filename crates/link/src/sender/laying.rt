@@ -18,7 +18,7 @@ trait PlacedBits {
     ghost bit: { Self → ℕ → ℕ → Bool → Bool };
 
     fn bit(&self, j: usize, k: usize, turned: bool) -> bool
-        requires { k < 1024 }
+        requires { k < MOST_BURST }
         ensures { result ≡ bit self.now j k turned };
 }
 
@@ -46,7 +46,7 @@ struct Carried<'r, 'a, 'f, L> {
 impl<'r, 'a, 'f, L> Carried<'r, 'a, 'f, L> {
     // What the burst carries at place k before turning.
     fn carried(&self, k: usize) -> bool
-        requires { k < 1024 }
+        requires { k < MOST_BURST }
         ensures { result ≡ carried self.now.ring.now.format.now self.now.ring.now.cells.now self.now.number k }
     {
         let back = k % self.ring.format.depth;
