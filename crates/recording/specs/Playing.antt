@@ -15,7 +15,7 @@ use Rattle.recording.specs.Kinds.{Weighing}
 use Rattle.recording.specs.Lines.{opened_line, fault_written, answer_line, stolen_line, restarted_line, written, all_written}
 use Rattle.recording.specs.declared.player.Player.{Player}
 use Rattle.records.specs.Recordings.{may_stand, Next, Spells}
-use Rattle.records.specs.Records.{Said, said, opens, hears, misses, steals, restarts, spelling, Begins}
+use Rattle.records.specs.Records.{Said, said, opens, hears, misses, steals, restarts, spelling, Begins, BeginsAlone, BeginsNone}
 use Rattle.stations.specs.Stations.{memory, HearsHere, MissesHere, RestartsHere}
 use Rattle.records.specs.declared.record.Kind.{Kind}
 use Rattle.records.specs.declared.record.Record.{Record}
@@ -41,9 +41,8 @@ pub record Begun (whole : List ℕ) (p : Player) : Type 0 where
 
 -- the record that comes next, and the place where the rest begins; or none comes
 abbrev pub Comes : Player → Option (Record × ℕ) → Type 0
-Comes p (Some (found, after)) =
-    Begins (rest p) (said found) × (after ≡ p.at + length (spelling (said found))) × ((s : Said) → Begins (rest p) s → s ≡ said found)
-Comes p None = (s : Said) → Begins (rest p) s → ⊥
+Comes p (Some (found, after)) = BeginsAlone (rest p) (said found) × (after ≡ p.at + length (spelling (said found)))
+Comes p None = BeginsNone (rest p)
 
 -- the opening that comes next has been read
 pub record Read (channel : Channel) (kind : Kind) (p p' : Player) : Type 0 where

@@ -52,11 +52,18 @@ pub record Begins (bytes : List ℕ) (s : Said) : Type 0 where
   -- as many of the bytes as it takes are its own
   pub spelt : take (length (spelling s)) bytes ≡ spelling s
 
+-- the bytes begin with a record and with no other
+abbrev pub BeginsAlone : List ℕ → Said → Type 0
+BeginsAlone bytes s = Begins bytes s × ((t : Said) → Begins bytes t → t ≡ s)
+
+-- they begin with none
+abbrev pub BeginsNone : List ℕ → Type 0
+BeginsNone bytes = (s : Said) → Begins bytes s → ⊥
+
 -- what reading the bytes answers: the one record that they begin with and the bytes behind it, or nothing where they begin with none
 abbrev pub Reads : List ℕ → Option (Record × Bor (List ℕ)) → Type 0
-Reads bytes (Some (found, rest)) =
-    Begins bytes (said found) × (rest.now ≡ drop (length (spelling (said found))) bytes) × ((s : Said) → Begins bytes s → s ≡ said found)
-Reads bytes None = (s : Said) → Begins bytes s → ⊥
+Reads bytes (Some (found, rest)) = BeginsAlone bytes (said found) × (rest.now ≡ drop (length (spelling (said found))) bytes)
+Reads bytes None = BeginsNone bytes
 
 -- what is written of a record that was not spelt
 abbrev pub not_spelt : SpellError → List ℕ

@@ -1,4 +1,4 @@
--- How bits are written: as figures, and as the bytes that spell clean samples.
+-- How bits are written, as figures and as the bytes that spell clean samples, and how a line of figures is read.
 use Rattle.std.specs.Prelude.{◌≡◌, ℕ, ◌≤◌, Bool, true, false, List, [], ◌∷◌, ◌++◌, map, All, nat_lt, if◌then◌else◌}
 use Rattle.records.specs.declared.record.Kind.{Kind}
 use Rattle.records.specs.declared.record.Kind.TheVariants.{Count, Ranked}

@@ -27,8 +27,6 @@ module _ {C S P : Type 0} (k : cost.Ghosts C S P) where
   pub record Fresh (channel : Channel) (s : Station C S P) : Type 0 where
     pub tuned : Tuned k channel s.receiver
     pub lends : memory s ≡ blank s.receiver.format
-    -- so each part is as large as it is to be
-    pub room : sizes (memory s) ≡ needed s.receiver.format
 
   -- a burst heard; the memory stays as large as it was
   pub record HearsHere (samples : List S) (s : Station C S P) (reply : Reply k laying_line) (s' : Station C S P) : Type 0 where

@@ -13,13 +13,13 @@ abbrev pub sender_memory : Transmitter → SenderMemory
 sender_memory t = record { ring = vec_items t.ring; burst = vec_items t.burst }
 
 -- memory as large as a sender asks for, all zeros
-abbrev pub zeros : {L : Type 0} → Format L → SenderMemory
-zeros f = record { ring = replicate (sender_needs f).ring 0; burst = replicate (sender_needs f).burst 0 }
+abbrev pub sender_blank : {L : Type 0} → Format L → SenderMemory
+sender_blank f = record { ring = replicate (sender_needs f).ring 0; burst = replicate (sender_needs f).burst 0 }
 
--- a sender opened for the channel, with as much memory as it asks for, all zeros
+-- a sender opened for the channel, with as much memory as it asks for, all blank
 pub record FreshSender (channel : Channel) (t : Transmitter) : Type 0 where
   pub tuned : TunedSender channel t.sender
-  pub lends : sender_memory t ≡ zeros t.sender.format
+  pub lends : sender_memory t ≡ sender_blank t.sender.format
 
 -- a message sent; the memory stays as large as it was
 pub record SendsHere (message : List ℕ) (t : Transmitter) (reply : SendReply) (t' : Transmitter) : Type 0 where

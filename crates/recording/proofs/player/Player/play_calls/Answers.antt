@@ -1,9 +1,11 @@
-use Rattle.std.proofs.Common.{◌≡◌, ◌++◌, drop, true, false, string_bytes, sym, refl, subst}
+use Rattle.std.proofs.Common.{◌≡◌, ◌++◌, drop, true, false, string_bytes, sym, refl, ap, ◌∙◌, subst}
 use Rattle.recording.specs.Lines.{opened_line, written}
 use Rattle.recording.specs.Playing.{weighed, Wrote, Turns, PlaysCalls}
 use Rattle.records.specs.Recordings.{may_stand}
 use Rattle.records.specs.Records.{said, Begins}
+use Rattle.link.specs.Calls.{sizes}
 use Rattle.stations.specs.Stations.{memory}
+use Rattle.stations.proofs.Blank.{blank_room}
 use Rattle.recording.proofs.Going.{Going, going_begun, going_after, calls_after}
 use Rattle.recording.proofs.player.Player.play_calls.Goals as goal
 use Rattle.recording.proofs.player.Player.play_calls.Goals.{in-Some+in_ok-answer+then-not-branch, in_default}
@@ -18,7 +20,7 @@ loop-record-init g c =
       same = refl;
       going =
           subst (λ t. Going w s.receiver p.bytes.now p.at (memory s) s.receiver (memory s) p.at before t) (sym c.in_ok-put.ensures)
-          (going_begun w p.bytes.now p.at s before c.in_ok-station.ensures.room p.within);
+          (going_begun w p.bytes.now p.at s before (ap sizes c.in_ok-station.ensures.lends ∙ blank_room g.C.Cost s.receiver.format) p.within);
     }
 
 pub loop-record-preserved : goal.loop-record-preserved
@@ -41,7 +43,7 @@ loop-record-preserved g c =
       going =
           subst (λ n. Going w first.receiver p.bytes.now p.at (memory first) s'.receiver (memory s') n before text') (sym found.1)
           (going_after w first.receiver p.bytes.now p.at (memory first) c.in_ok-station.ensures.tuned.opened.histories s s' q.at before text text'
-          says (subst (λ b. Begins (drop q.at b) says) i.same found.0) i.going wrote);
+          says (subst (λ b. Begins (drop q.at b) says) i.same found.0.0) i.going wrote);
     }
 
 pub returns : goal.returns
@@ -63,7 +65,7 @@ returns g c =
           subst (λ q'. PlaysCalls w c.args.channel p q') (sym v.self-is)
           (record {
             same = i.same;
-            after = after (string_bytes v.answer.new.lines) turned.1 (λ t b. subst (λ u. may_stand false u ≡ true) (sym (found.2 t b)) turned.0);
+            after = after (string_bytes v.answer.new.lines) turned.1 (λ t b. subst (λ u. may_stand false u ≡ true) (sym (found.0.1 t b)) turned.0);
           })
       | in_default v ↦
           subst (λ q'. PlaysCalls w c.args.channel p q') (sym v.self-is)
