@@ -1,6 +1,6 @@
 // How bursts are written: each as a line of figures, or all as a recording, by the clean samples of a kind of cost.
 ghost use Rattle.std.specs.Prelude.{◌≡◌, ◌++◌, OnOk};
-ghost use Rattle.sendburst.specs.Written.{clean_byte, figure_line};
+ghost use Rattle.sendburst.specs.Written.{burst_written, clean_byte, figure_line, heading};
 
 use channels::channel::Channel;
 use cost::count::Count;
@@ -18,7 +18,9 @@ pub(crate) enum Form {
 
 impl Form {
     // What stands before the first burst.
-    pub(crate) fn begin(self, channel: Channel, written: &mut Vec<u8>) -> Result<(), SpellError> {
+    pub(crate) fn begin(self, channel: Channel, written: &mut Vec<u8>) -> Result<(), SpellError>
+        ensures { OnOk result (written.new.items ≡ written.old.items ++ heading self channel) }
+    {
         match self {
             Form::Figures => Ok(()),
             Form::Recording(kind) => spell(Record::Open { channel, kind }, written),
@@ -31,7 +33,9 @@ impl Form {
         heap: Global,
         burst: &[u8],
         written: &mut Vec<u8>,
-    ) -> Result<(), SpellError> {
+    ) -> Result<(), SpellError>
+        ensures { OnOk result (written.new.items ≡ written.old.items ++ burst_written self burst.now) }
+    {
         match self {
             Form::Figures => Ok(put_figures(burst, written)?),
             Form::Recording(kind) => {
