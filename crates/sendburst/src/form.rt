@@ -1,5 +1,6 @@
 // How bursts are written: each as a line of figures, or all as a recording, by the clean samples of a kind of cost.
-ghost use Rattle.std.specs.Prelude.{◌≡◌, ◌++◌, OnOk};
+ghost use Rattle.std.specs.Prelude.{◌≡◌, ◌<◌, ◌++◌, MatchResult, OnOk, length};
+ghost use Rattle.records.specs.declared.spell.SpellError.TheVariants.{TooLong, OutOfMemory};
 ghost use Rattle.sendburst.specs.Written.{burst_written, clean_byte, figure_line, heading};
 
 use channels::channel::Channel;
@@ -17,9 +18,9 @@ pub(crate) enum Form {
 }
 
 impl Form {
-    // What stands before the first burst.
+    // What stands before the first burst; it fails for want of memory alone.
     pub(crate) fn begin(self, channel: Channel, written: &mut Vec<u8>) -> Result<(), SpellError>
-        ensures { OnOk result (written.new.items ≡ written.old.items ++ heading self channel) }
+        ensures { MatchResult result (λ _. written.new.items ≡ written.old.items ++ heading self channel) (λ e. e ≡ OutOfMemory) }
     {
         match self {
             Form::Figures => Ok(()),
@@ -27,14 +28,14 @@ impl Form {
         }
     }
 
-    // One burst, whose bits stand one to a byte.
+    // One burst, whose bits stand one to a byte; it is too long only where a record would hold more than 1,024 samples.
     pub(crate) fn put(
         self,
         heap: Global,
         burst: &[u8],
         written: &mut Vec<u8>,
     ) -> Result<(), SpellError>
-        ensures { OnOk result (written.new.items ≡ written.old.items ++ burst_written self burst.now) }
+        ensures { MatchResult result (λ _. written.new.items ≡ written.old.items ++ burst_written self burst.now) (λ e. e ≡ TooLong → 1024 < length burst.now) }
     {
         match self {
             Form::Figures => Ok(put_figures(burst, written)?),
