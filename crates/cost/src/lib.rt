@@ -2,5 +2,6 @@
 #![tactic(auto)]
 
 pub mod count;
+pub mod float;
 pub mod kind;
 pub mod ranked;
