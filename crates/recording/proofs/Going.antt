@@ -1,5 +1,5 @@
 -- The calls after an opening, played one after the other: the history goes on with each, and its line is written.
-use Rattle.std.proofs.Common.{◌≡◌, ℕ, ◌+◌, ◌≤◌, true, false, List, [], ◌∷◌, ◌++◌, map, length, drop, None, string_bytes, sym, refl, ap, ◌∙◌, subst, append_assoc, append-nil, arith, length-take}
+use Rattle.std.proofs.Common.{◌≡◌, ℕ, ◌+◌, ◌≤◌, List, [], ◌∷◌, ◌++◌, length, drop, None, Some, Option, string_bytes, sym, refl, ap, ◌∙◌, subst, append_assoc, append-nil, arith, length-take}
 use Rattle.std.proofs.lemmas.List.{drop-drop, length-drop}
 use Rattle.std.proofs.lemmas.Bool.{le-leb}
 use Rattle.channels.specs.Channels.{Tuned}
@@ -17,14 +17,15 @@ use Rattle.recording.specs.Kinds.{Weighing}
 use Rattle.recording.specs.Lines.{opened_line, answer_line, stolen_line, restarted_line, written}
 use Rattle.recording.specs.Playing.{rest, Same, Wrote, Follows, CallsAfter}
 use Rattle.recording.specs.declared.player.Player.{Player}
-use Rattle.records.specs.Recordings.{may_stand, Spells, says}
-use Rattle.records.specs.Records.{Said, opens, hears, misses, steals, restarts, spelling, Begins}
+use Rattle.records.specs.Recordings.{opened_by, Spells, says}
+use Rattle.records.specs.Records.{Said, opens, hears, misses, steals, restarts, spelling, Stands, Begins}
+use Rattle.records.specs.declared.record.Kind.{Kind}
 use Rattle.stations.specs.Stations.{memory}
 use Rattle.stations.specs.declared.station.Station.{Station}
 
 -- a record is no longer than the bytes that begin with it
-begins_within : (bytes : List ℕ) (s : Said) → Begins bytes s → length (spelling s) ≤ length bytes
-begins_within bytes s b = omega (arith, length-take (length (spelling s)) bytes, ap length b.spelt)
+begins_within : (opened : Option Kind) (bytes : List ℕ) (s : Said) → Begins opened bytes s → length (spelling s) ≤ length bytes
+begins_within opened bytes s b = omega (arith, length-take (length (spelling s)) bytes, ap length b.spelt)
 
 -- memory of the sizes needed is enough
 needed_enough : {L : Type 0} (f : Format L) → first (memory_rules f (needed f)) ≡ None
@@ -57,10 +58,10 @@ module _ (w : Weighing) (opened : Receiver w.C Laying w.S w.P) (bytes : List ℕ
   -- a call goes on with them
   goes_on : (r r' : Receiver w.C Laying w.S w.P) (m m' : Memory w.S w.P) (at : ℕ) (before text text' : List ℕ) (s : Said) (line : List ℕ)
       (g : Going r m at before text) (bursts : List (List w.S)) (h : History w.kind laying_line opened r' m'.ring bursts) →
-      sizes m' ≡ sizes m → Begins (drop at bytes) s → text' ≡ text ++ written line →
+      sizes m' ≡ sizes m → Begins (Some w.named) (drop at bytes) s → opened_by (Some w.named) s ≡ Some w.named → text' ≡ text ++ written line →
       ((since : List Said) (lines : List (List ℕ)) → Goes w opened r' m' bursts h since lines → Goes w opened r m g.bursts g.history (s ∷ since) (line ∷ lines)) →
       Going r' m' (at + length (spelling s)) before text'
-  goes_on r r' m m' at before text text' s line g bursts h same b wrote goes =
+  goes_on r r' m m' at before text text' s line g bursts h same b stays wrote goes =
       let n = length (spelling s) in
       let whole = g.so_far in
       record {
@@ -68,7 +69,7 @@ module _ (w : Weighing) (opened : Receiver w.C Laying w.S w.P) (bytes : List ℕ
         history = h;
         room = same ∙ g.room;
         forward = let f = g.forward in omega arith;
-        within = let i = g.within in omega (arith, begins_within (drop at bytes) s b, length-drop at bytes);
+        within = let i = g.within in omega (arith, begins_within (Some w.named) (drop at bytes) s b, length-drop at bytes);
         so_far = whole ++ written line;
         wrote = wrote ∙ ap (λ t. t ++ written line) g.wrote ∙ append_assoc before whole (written line);
         gives = λ stop made f.
@@ -78,8 +79,9 @@ module _ (w : Weighing) (opened : Receiver w.C Laying w.S w.P) (bytes : List ℕ
               lines = line ∷ f.lines;
               goes = goes f.since f.lines f.goes;
               spelt = λ records fault left.
-                  says true at (drop at bytes) s (f.since ++ records) fault (record { begins = b; stands = refl })
-                  (subst (λ t. Spells true (at + n) t (f.since ++ records) fault) (sym (drop-drop n at bytes)) (f.spelt records fault left));
+                  says (Some w.named) at (drop at bytes) s (f.since ++ records) fault b
+                  (subst (λ o. Spells o (at + n) (drop n (drop at bytes)) (f.since ++ records) fault) (sym stays)
+                  (subst (λ t. Spells (Some w.named) (at + n) t (f.since ++ records) fault) (sym (drop-drop n at bytes)) (f.spelt records fault left)));
               shown = ap (λ t. written line ++ t) f.shown;
             }));
       }
@@ -92,23 +94,23 @@ module _ (w : Weighing) (opened : Receiver w.C Laying w.S w.P) (bytes : List ℕ
 
   -- a record played as a call goes on with them
   pub going_after : AllSound w.kind laying_line opened → (s s' : Station w.C w.S w.P) (at : ℕ) (before text text' : List ℕ) (said : Said) →
-      Begins (drop at bytes) said → Going s.receiver (memory s) at before text → Wrote w said s text s' text' →
+      Begins (Some w.named) (drop at bytes) said → Going s.receiver (memory s) at before text → Wrote w said s text s' text' →
       Going s'.receiver (memory s') (at + length (spelling said)) before text'
   going_after sound s s' at before text text' (opens channel kind) b g a = absurd a.calls
-  going_after sound s s' at before text text' (hears given) b g a =
+  going_after sound s s' at before text text' (hears count given) b g a =
       let r = s.receiver in
       let r' = s'.receiver in
       let m = memory s in
       let m' = memory s' in
-      let samples = map w.sample given in
+      let samples = w.samples given in
       let reply = a.calls.reply in
       let called = a.calls.called.called in
       let same = a.calls.called.room in
-      goes_on r r' m m' at before text text' (hears given) (answer_line w.figures opened.format.message reply m'.block) g
-      (counting w.kind laying_line reply samples g.bursts) (heard r r' g.bursts samples m m' reply g.history called) same b
+      goes_on r r' m m' at before text text' (hears count given) (answer_line w.figures opened.format.message reply m'.block) g
+      (counting w.kind laying_line reply samples g.bursts) (heard r r' g.bursts samples m m' reply g.history called) same b refl
       (a.wrote ∙ ap (λ l. text ++ written l) (tells_message m m' reply a.line g.room same a.calls.tells))
       (λ since lines goes.
-      hearing r r' m m' g.bursts g.history given reply called since lines (enough m g.room)
+      hearing r r' m m' g.bursts g.history count given reply called since lines (enough m g.room)
       (sound.hears r r' g.bursts samples m m' reply g.history called) goes)
   going_after sound s s' at before text text' misses b g a =
       let r = s.receiver in
@@ -119,7 +121,7 @@ module _ (w : Weighing) (opened : Receiver w.C Laying w.S w.P) (bytes : List ℕ
       let called = a.calls.called.called in
       let same = a.calls.called.room in
       goes_on r r' m m' at before text text' misses (answer_line w.figures opened.format.message reply m'.block) g
-      (counting w.kind laying_line reply (silence w.kind laying_line r.format) g.bursts) (missed r r' g.bursts m m' reply g.history called) same b
+      (counting w.kind laying_line reply (silence w.kind laying_line r.format) g.bursts) (missed r r' g.bursts m m' reply g.history called) same b refl
       (a.wrote ∙ ap (λ l. text ++ written l) (tells_message m m' reply a.line g.room same a.calls.tells))
       (λ since lines goes.
       missing r r' m m' g.bursts g.history reply called since lines (enough m g.room)
@@ -130,7 +132,7 @@ module _ (w : Weighing) (opened : Receiver w.C Laying w.S w.P) (bytes : List ℕ
       let reply = a.calls.reply in
       let called = a.calls.called in
       subst (λ t. Going t.receiver (memory t) (at + length (spelling steals)) before text') (sym a.calls.kept)
-      (goes_on r r m m at before text text' steals (stolen_line reply) g g.bursts (stole r r m.ring g.bursts reply g.history called) refl b
+      (goes_on r r m m at before text text' steals (stolen_line reply) g g.bursts (stole r r m.ring g.bursts reply g.history called) refl b refl
       (a.wrote ∙ ap (λ l. text ++ written l) a.calls.tells)
       (λ since lines goes. stealing r r m g.bursts g.history reply called since lines goes))
   going_after sound s s' at before text text' restarts b g a =
@@ -139,7 +141,7 @@ module _ (w : Weighing) (opened : Receiver w.C Laying w.S w.P) (bytes : List ℕ
       let m = memory s in
       let called = a.calls.0.called in
       subst (λ n. Going r' n (at + length (spelling restarts)) before text') (sym a.calls.0.kept)
-      (goes_on r r' m m at before text text' restarts restarted_line g [] (restarted r r' m.ring g.bursts g.history called) refl b
+      (goes_on r r' m m at before text text' restarts restarted_line g [] (restarted r r' m.ring g.bursts g.history called) refl b refl
       (a.wrote ∙ ap (λ l. text ++ written l) a.calls.1)
       (λ since lines goes. restarting r r' m g.bursts g.history called since lines goes))
 
@@ -174,7 +176,7 @@ pub record GoingBy (w : Weighing) (p : Player) (before : List ℕ) (first : Stat
 -- where they stop, all calls after the opening have been played
 pub calls_after : (w : Weighing) (p : Player) (channel : Channel) (first : Station w.C w.S w.P) (q : Player) (s : Station w.C w.S w.P) →
     Tuned w.kind channel first.receiver → GoingBy w p (string_bytes p.lines ++ written (opened_line channel)) first q s →
-    (text : List ℕ) → text ≡ string_bytes q.lines → ((t : Said) → Begins (rest q) t → may_stand false t ≡ true) →
+    (text : List ℕ) → text ≡ string_bytes q.lines → ((t : Said) → Begins (Some w.named) (rest q) t → Stands None t) →
     CallsAfter w channel p.bytes.now p.at (string_bytes p.lines ++ written (opened_line channel)) q.at text
 calls_after w p channel first q s tuned i text e stops =
     let before = string_bytes p.lines ++ written (opened_line channel) in
@@ -188,5 +190,5 @@ calls_after w p channel first q s tuned i text e stops =
       wrote = e ∙ going.wrote;
       forward = going.forward;
       within = going.within;
-      stops = subst (λ b. (t : Said) → Begins (drop q.at b) t → may_stand false t ≡ true) i.same stops;
+      stops = subst (λ b. (t : Said) → Begins (Some w.named) (drop q.at b) t → Stands None t) i.same stops;
     }

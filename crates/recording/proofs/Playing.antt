@@ -9,18 +9,18 @@ use Rattle.recording.specs.Kinds.{weighing}
 use Rattle.recording.specs.Lines.{opened_line, written, all_written, fault_written}
 use Rattle.recording.specs.Playing.{rest, finished, Read, CallsAfter, PlaysCalls}
 use Rattle.recording.specs.declared.player.Player.{Player}
-use Rattle.records.specs.Recordings.{may_stand, Next, Spells, ends, faults, says}
-use Rattle.records.specs.Records.{Said, opens, Begins}
+use Rattle.records.specs.Recordings.{Spells, ends, faults, says}
+use Rattle.records.specs.Records.{Said, opens, Stands, Begins, BeginsNone}
 use Rattle.records.specs.declared.record.Kind.{Kind}
 
--- an opening may stand anywhere
-opening_stands : (opened : Bool) (channel : Channel) (kind : Kind) → may_stand opened (opens channel kind) ≡ true
-opening_stands true channel kind = refl
-opening_stands false channel kind = refl
+-- what stands before any opening stands anywhere
+stands_anywhere : (opened : Option Kind) (s : Said) → Stands None s → Stands opened s
+stands_anywhere opened (opens channel kind) h = tt
+stands_anywhere opened s h = absurd h
 
 module _ (bytes : List ℕ) where
   -- what the bytes from a place on make, where a channel has been opened or none
-  pub record Rest (opened : Bool) (at : ℕ) (made : List ℕ) : Type 0 where
+  pub record Rest (opened : Option Kind) (at : ℕ) (made : List ℕ) : Type 0 where
     pub records : List Said
     pub fault : Option ℕ
     pub lines : List (List ℕ)
@@ -30,9 +30,9 @@ module _ (bytes : List ℕ) where
 
   -- how far playing has come: what comes next is no call, and the text so far and what is left to play give the whole
   pub record Playing (at : ℕ) (so_far : List ℕ) : Type 0 where
-    pub opened : Bool
+    pub opened : Option Kind
     pub within : at ≤ length bytes
-    pub waits : (s : Said) → Next opened (drop at bytes) s → may_stand false s ≡ true
+    pub waits : (s : Said) → Begins opened (drop at bytes) s → Stands None s
     pub gives : (made : List ℕ) → Rest opened at made → Played bytes (so_far ++ made)
 
   -- where nothing is left, the text so far is the whole
@@ -49,27 +49,27 @@ module _ (bytes : List ℕ) where
 
   -- where no opening stands, the text so far and the fault's line are the whole
   pub playing_fault : (at : ℕ) (so_far : List ℕ) → Playing at so_far → at < length bytes →
-      ((s : Said) → Next false (drop at bytes) s → ⊥) → Played bytes (so_far ++ fault_written (Some at))
+      BeginsNone None (drop at bytes) → Played bytes (so_far ++ fault_written (Some at))
   playing_fault at so_far p h none =
       p.gives (fault_written (Some at)) (record {
         records = [];
         fault = Some at;
         lines = [];
-        spelt = faults p.opened at (drop at bytes) (omega (arith, length-drop at bytes)) (λ s n. none s (record { begins = n.begins; stands = p.waits s n }));
+        spelt = faults p.opened at (drop at bytes) (omega (arith, length-drop at bytes)) (λ s b. none s (record { stands = p.waits s b; spelt = b.spelt }));
         told = silent;
         shown = refl;
       })
 
   -- an opening is played with the calls that follow it
-  pub playing_after : (at stop : ℕ) (channel : Channel) (kind : Kind) (so_far after : List ℕ) → Playing at so_far → Begins (drop at bytes) (opens channel kind) →
+  pub playing_after : (at stop : ℕ) (channel : Channel) (kind : Kind) (so_far after : List ℕ) → Playing at so_far → Begins None (drop at bytes) (opens channel kind) →
       CallsAfter (weighing kind) channel bytes (at + 4) (so_far ++ written (opened_line channel)) stop after → Playing stop after
   playing_after at stop channel kind so_far after p b h =
       let f = h.follows in
       let line = written (opened_line channel) in
       record {
-        opened = true;
+        opened = Some (weighing kind).named;
         within = h.within;
-        waits = λ s n. h.stops s n.begins;
+        waits = h.stops;
         gives = λ made left.
             subst (λ t. Played bytes t)
             (sym (append_assoc so_far line (h.made ++ made)) ∙ sym (append_assoc (so_far ++ line) h.made made) ∙ ap (λ t. t ++ made) (sym h.wrote))
@@ -79,8 +79,8 @@ module _ (bytes : List ℕ) where
               lines = opened_line channel ∷ (f.lines ++ left.lines);
               spelt =
                   says p.opened at (drop at bytes) (opens channel kind) (f.since ++ left.records) left.fault
-                  (record { begins = b; stands = opening_stands p.opened channel kind })
-                  (subst (λ t. Spells true (at + 4) t (f.since ++ left.records) left.fault) (sym (drop-drop 4 at bytes))
+                  (record { stands = stands_anywhere p.opened (opens channel kind) b.stands; spelt = b.spelt })
+                  (subst (λ t. Spells (Some kind) (at + 4) t (f.since ++ left.records) left.fault) (sym (drop-drop 4 at bytes))
                   (f.spelt left.records left.fault left.spelt));
               told = opening channel kind h.receiver h.memory f.since left.records f.lines left.lines h.tuned f.goes left.told;
               shown =
@@ -112,20 +112,20 @@ module _ (bytes : List ℕ) where
         same = h.same ∙ whole;
         playing =
             playing_after p.at r.at channel kind (string_bytes p.lines) made i.playing
-            (subst (λ b. Begins (drop p.at b) (opens channel kind)) i.same o.begins) after;
+            (subst (λ b. Begins None (drop p.at b) (opens channel kind)) i.same o.begins) after;
       }
 
   -- where no opening comes next, the lines with that of the fault are the whole
-  finished_so : (p : Player) → PlayingBy p → ((s : Said) → Next false (rest p) s → ⊥) → (more : Bool) → nat_lt p.at (length bytes) ≡ more →
+  finished_so : (p : Player) → PlayingBy p → BeginsNone None (rest p) → (more : Bool) → nat_lt p.at (length bytes) ≡ more →
       Played bytes (string_bytes p.lines ++ cond more (fault_written (Some p.at)) [])
   finished_so p i none true e =
       playing_fault p.at (string_bytes p.lines) i.playing (ltb-true p.at (length bytes) e)
-      (subst (λ b. (s : Said) → Next false (drop p.at b) s → ⊥) i.same none)
+      (subst (λ b. BeginsNone None (drop p.at b)) i.same none)
   finished_so p i none false e =
       subst (λ t. Played bytes t) (sym (append-nil (string_bytes p.lines)))
       (playing_done p.at (string_bytes p.lines) i.playing (ltb-false p.at (length bytes) e))
 
-  pub finished_by : (p : Player) → PlayingBy p → ((s : Said) → Next false (rest p) s → ⊥) → Played bytes (finished p)
+  pub finished_by : (p : Player) → PlayingBy p → BeginsNone None (rest p) → Played bytes (finished p)
   finished_by p i none =
       subst (λ b. Played bytes (string_bytes p.lines ++ cond (nat_lt p.at (length b)) (fault_written (Some p.at)) [])) (sym i.same)
       (finished_so p i none (nat_lt p.at (length bytes)) refl)

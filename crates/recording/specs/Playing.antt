@@ -1,5 +1,5 @@
 -- What the parts of playing make, from one place of the recording to another. Only private functions cite this file.
-use Rattle.std.specs.Prelude.{◌≡◌, ℕ, ◌+◌, ◌≤◌, cond, nat_lt, string_bytes, Bool, true, false, List, [], ◌++◌, map, length, drop, Some, None, Option, Result}
+use Rattle.std.specs.Prelude.{◌≡◌, ℕ, ◌+◌, ◌≤◌, cond, nat_lt, string_bytes, Bool, true, false, List, [], ◌++◌, length, drop, Some, None, Option, Result}
 use Rattle.channels.specs.Channels.{Tuned}
 use Rattle.channels.specs.Layings.{laying_line}
 use Rattle.channels.specs.declared.channel.Channel.{Channel}
@@ -14,8 +14,8 @@ use Rattle.recording.specs.Answers.{Goes}
 use Rattle.recording.specs.Kinds.{Weighing}
 use Rattle.recording.specs.Lines.{opened_line, fault_written, answer_line, stolen_line, restarted_line, written, all_written}
 use Rattle.recording.specs.declared.player.Player.{Player}
-use Rattle.records.specs.Recordings.{may_stand, Next, Spells}
-use Rattle.records.specs.Records.{Said, said, opens, hears, misses, steals, restarts, spelling, Begins, BeginsAlone, BeginsNone}
+use Rattle.records.specs.Recordings.{Spells}
+use Rattle.records.specs.Records.{Said, said, opens, hears, misses, steals, restarts, spelling, Stands, Begins, BeginsAlone, BeginsNone}
 use Rattle.stations.specs.Stations.{memory, HearsHere, MissesHere, RestartsHere}
 use Rattle.records.specs.declared.record.Kind.{Kind}
 use Rattle.records.specs.declared.record.Record.{Record}
@@ -40,25 +40,25 @@ pub record Begun (whole : List ℕ) (p : Player) : Type 0 where
   pub lines : string_bytes p.lines ≡ []
 
 -- the record that comes next, and the place where the rest begins; or none comes
-abbrev pub Comes : Player → Option (Record × ℕ) → Type 0
-Comes p (Some (found, after)) = BeginsAlone (rest p) (said found) × (after ≡ p.at + length (spelling (said found)))
-Comes p None = BeginsNone (rest p)
+abbrev pub Comes : Option Kind → Player → Option (Record × ℕ) → Type 0
+Comes opened p (Some (found, after)) = BeginsAlone opened (rest p) (said found) × (after ≡ p.at + length (spelling (said found)))
+Comes opened p None = BeginsNone opened (rest p)
 
 -- the opening that comes next has been read
 pub record Read (channel : Channel) (kind : Kind) (p p' : Player) : Type 0 where
   pub same : Same p p'
-  pub begins : Begins (rest p) (opens channel kind)
+  pub begins : Begins None (rest p) (opens channel kind)
   pub at : p'.at ≡ p.at + length (spelling (opens channel kind))
   pub lines : p'.lines ≡ p.lines
 
 -- or none comes next
 abbrev pub Opens : Player → Option (Channel × Kind) → Player → Type 0
 Opens p (Some (channel, kind)) p' = Read channel kind p p'
-Opens p None p' = ((s : Said) → Next false (rest p) s → ⊥) × (p' ≡ p)
+Opens p None p' = BeginsNone None (rest p) × (p' ≡ p)
 
--- a kind of cost, with its samples and figures
-abbrev pub weighed : {C S P : Type 0} → cost.Ghosts C S P → (ℕ → S) → (C → List ℕ) → Weighing
-weighed {C} {S} {P} kind sample figures = record { C = C; S = S; P = P; kind = kind; sample = sample; figures = figures }
+-- a kind of cost, with its name, its samples and its figures
+abbrev pub weighed : {C S P : Type 0} → cost.Ghosts C S P → Kind → (List ℕ → List S) → (C → List ℕ) → Weighing
+weighed {C} {S} {P} kind named samples figures = record { C = C; S = S; P = P; kind = kind; named = named; samples = samples; figures = figures }
 
 module _ (w : Weighing) where
   -- a call was answered, and the line tells the answer, with the message that the block memory then holds
@@ -77,7 +77,7 @@ module _ (w : Weighing) where
   -- a record as a call of the station, which an opening is not
   abbrev pub Calls : Said → Station w.C w.S w.P → Station w.C w.S w.P → List ℕ → Type 0
   Calls (opens channel kind) s s' line = ⊥
-  Calls (hears bytes) s s' line = Replied (λ reply. HearsHere w.kind (map w.sample bytes) s reply s') s' line
+  Calls (hears count bytes) s s' line = Replied (λ reply. HearsHere w.kind (w.samples bytes) s reply s') s' line
   Calls misses s s' line = Replied (λ reply. MissesHere w.kind s reply s') s' line
   Calls steals s s' line = StolenReplied s s' line
   Calls restarts s s' line = RestartsHere w.kind s s' × (line ≡ restarted_line)
@@ -91,7 +91,7 @@ module _ (w : Weighing) where
   -- whether the record was a call; if not, it is an opening, and nothing was written
   abbrev pub Turns : Said → Station w.C w.S w.P → List ℕ → Bool → Station w.C w.S w.P → List ℕ → Type 0
   Turns said s before true s' after = Wrote said s before s' after
-  Turns said s before false s' after = (may_stand false said ≡ true) × (after ≡ before)
+  Turns said s before false s' after = Stands None said × (after ≡ before)
 
   -- the bytes from one place to another spell calls that the history of a receiver goes on with; what is made is the text of their lines
   pub record Follows (opened : Receiver w.C Laying w.S w.P) (bytes : List ℕ)
@@ -100,8 +100,8 @@ module _ (w : Weighing) where
     pub since : List Said
     pub lines : List (List ℕ)
     pub goes : Goes w opened r m bursts h since lines
-    pub spelt : (records : List Said) (fault : Option ℕ) → Spells true stop (drop stop bytes) records fault →
-        Spells true at (drop at bytes) (since ++ records) fault
+    pub spelt : (records : List Said) (fault : Option ℕ) → Spells (Some w.named) stop (drop stop bytes) records fault →
+        Spells (Some w.named) at (drop at bytes) (since ++ records) fault
     pub shown : made ≡ all_written lines
 
   -- all calls that follow an opening of the channel
@@ -115,7 +115,7 @@ module _ (w : Weighing) where
     pub forward : start ≤ stop
     pub within : stop ≤ length bytes
     -- what comes next is no call
-    pub stops : (s : Said) → Begins (drop stop bytes) s → may_stand false s ≡ true
+    pub stops : (s : Said) → Begins (Some w.named) (drop stop bytes) s → Stands None s
 
   -- they have been played, and the line of the opening before them
   pub record PlaysCalls (channel : Channel) (p p' : Player) : Type 0 where

@@ -9,9 +9,10 @@ ghost use Rattle.records.specs.Records.{said};
 use super::Player;
 use crate::figures::Figured;
 use crate::printed::{Bits, Line};
-use crate::sample::{Spelt, samples};
+use crate::sample::Spelt;
 use channels::channel::Channel;
 use cost::count::Count;
+use cost::float::Float;
 use cost::ranked::Ranked;
 use link::refusal::Refusal;
 use records::read::next_record;
@@ -31,11 +32,11 @@ impl<'a> Player<'a> {
         }
     }
 
-    // The record that comes next, and the place where the rest begins.
-    fn next(&self) -> Option<(Record<'a>, usize)>
-        ensures { Comes self.now result }
+    // The record that comes next while a channel is open at that kind or none is, and the place where the rest begins.
+    fn next(&self, opened: Option<Kind>) -> Option<(Record<'a>, usize)>
+        ensures { Comes opened self.now result }
     {
-        let (record, rest) = next_record(&self.bytes[self.at..])?;
+        let (record, rest) = next_record(opened, &self.bytes[self.at..])?;
         Some((record, self.bytes.len() - rest.len()))
     }
 
@@ -43,7 +44,7 @@ impl<'a> Player<'a> {
     pub(crate) fn opening(&mut self) -> Option<(Channel, Kind)>
         ensures { Opens self.old result self.new }
     {
-        let Some((Record::Open { channel, kind }, after)) = self.next() else {
+        let Some((Record::Open { channel, kind }, after)) = self.next(None) else {
             return None;
         };
         self.at = after;
@@ -57,17 +58,18 @@ impl<'a> Player<'a> {
         match kind {
             Kind::Count => self.play_calls::<Count>(channel),
             Kind::Ranked => self.play_calls::<Ranked>(channel),
+            Kind::Float => self.play_calls::<Float>(channel),
         }
     }
 
     fn play_calls<C: Figured>(&mut self, channel: Channel) -> Result<(), AllocError>
     where
         C::Sample: Spelt,
-        ensures { OnOk result (PlaysCalls (weighed C.Cost C.Sample.Spelt.spelt C.Figured.figures) channel self.old self.new) }
+        ensures { OnOk result (PlaysCalls (weighed C.Cost C.Figured.KIND C.Sample.Spelt.spelt C.Figured.figures) channel self.old self.new) }
     {
         put::<C>(&mut self.lines, &Line::Opened(channel))?;
         let mut station = Station::<C>::open(self.heap, channel)?;
-        while let Some((record, after)) = self.next() {
+        while let Some((record, after)) = self.next(Some(C::KIND)) {
             if !answer(self.heap, &mut station, record, &mut self.lines)? {
                 break;
             }
@@ -105,12 +107,12 @@ fn answer<C: Figured>(
 ) -> Result<bool, AllocError>
 where
     C::Sample: Spelt,
-    ensures { IfOk result (λ called. Turns (weighed C.Cost C.Sample.Spelt.spelt C.Figured.figures) (said «record».entry) station.old (string_bytes lines.old) called station.new (string_bytes lines.new)) }
+    ensures { IfOk result (λ called. Turns (weighed C.Cost C.Figured.KIND C.Sample.Spelt.spelt C.Figured.figures) (said «record».entry) station.old (string_bytes lines.old) called station.new (string_bytes lines.new)) }
 {
     match record {
         Record::Open { .. } => return Ok(false),
-        Record::Hear(bytes) => {
-            let heard = samples::<C::Sample>(heap, bytes)?;
+        Record::Hear { samples, .. } => {
+            let heard = C::Sample::samples(heap, samples)?;
             let reply = station.hear(&heard);
             let message = Bits(station.message());
             put(lines, &Line::Answered(reply, message))?;

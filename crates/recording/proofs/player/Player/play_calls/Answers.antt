@@ -1,8 +1,7 @@
 use Rattle.std.proofs.Common.{◌≡◌, ◌++◌, drop, true, false, string_bytes, sym, refl, ap, ◌∙◌, subst}
 use Rattle.recording.specs.Lines.{opened_line, written}
 use Rattle.recording.specs.Playing.{weighed, Wrote, Turns, PlaysCalls}
-use Rattle.records.specs.Recordings.{may_stand}
-use Rattle.records.specs.Records.{said, Begins}
+use Rattle.records.specs.Records.{said, Stands, Begins}
 use Rattle.link.specs.Calls.{sizes}
 use Rattle.stations.specs.Stations.{memory}
 use Rattle.stations.proofs.Blank.{blank_room}
@@ -12,7 +11,7 @@ use Rattle.recording.proofs.player.Player.play_calls.Goals.{in-Some+in_ok-answer
 
 pub loop-record-init : goal.loop-record-init
 loop-record-init g c =
-    let w = weighed g.C.Cost g.C.Sample.Spelt.spelt g.C.Figured.figures in
+    let w = weighed g.C.Cost g.C.Figured.KIND g.C.Sample.Spelt.spelt g.C.Figured.figures in
     let p = c.args.self.now in
     let s = c.in_ok-station.station in
     let before = string_bytes p.lines ++ written (opened_line c.args.channel) in
@@ -25,7 +24,7 @@ loop-record-init g c =
 
 pub loop-record-preserved : goal.loop-record-preserved
 loop-record-preserved g c =
-    let w = weighed g.C.Cost g.C.Sample.Spelt.spelt g.C.Figured.figures in
+    let w = weighed g.C.Cost g.C.Figured.KIND g.C.Sample.Spelt.spelt g.C.Figured.figures in
     let p = c.args.self.now in
     let first = c.in_ok-station.station in
     let q = c.loop-record.self in
@@ -43,12 +42,12 @@ loop-record-preserved g c =
       going =
           subst (λ n. Going w first.receiver p.bytes.now p.at (memory first) s'.receiver (memory s') n before text') (sym found.1)
           (going_after w first.receiver p.bytes.now p.at (memory first) c.in_ok-station.ensures.tuned.opened.histories s s' q.at before text text'
-          says (subst (λ b. Begins (drop q.at b) says) i.same found.0.0) i.going wrote);
+          says (subst (λ b. Begins (Some w.named) (drop q.at b) says) i.same found.0.0) i.going wrote);
     }
 
 pub returns : goal.returns
 returns g c =
-    let w = weighed g.C.Cost g.C.Sample.Spelt.spelt g.C.Figured.figures in
+    let w = weighed g.C.Cost g.C.Figured.KIND g.C.Sample.Spelt.spelt g.C.Figured.figures in
     let p = c.args.self.now in
     let first = c.in_ok-station.station in
     let q = c.loop-record.self in
@@ -65,7 +64,7 @@ returns g c =
           subst (λ q'. PlaysCalls w c.args.channel p q') (sym v.self-is)
           (record {
             same = i.same;
-            after = after (string_bytes v.answer.new.lines) turned.1 (λ t b. subst (λ u. may_stand false u ≡ true) (sym (found.0.1 t b)) turned.0);
+            after = after (string_bytes v.answer.new.lines) turned.1 (λ t b. subst (λ u. Stands None u) (sym (found.0.1 t b)) turned.0);
           })
       | in_default v ↦
           subst (λ q'. PlaysCalls w c.args.channel p q') (sym v.self-is)
