@@ -12,11 +12,18 @@ use Rattle.recording.specs.declared.player.Player.{Player}
 use Rattle.records.specs.Recordings.{Spells, ends, faults, says}
 use Rattle.records.specs.Records.{Said, opens, Stands, Begins, BeginsNone}
 use Rattle.records.specs.declared.record.Kind.{Kind}
+use Rattle.records.specs.declared.record.Kind.TheVariants as kinds
 
 -- what stands before any opening stands anywhere
 stands_anywhere : (opened : Option Kind) (s : Said) → Stands None s → Stands opened s
 stands_anywhere opened (opens channel kind) h = tt
 stands_anywhere opened s h = absurd h
+
+-- a kind is weighed under its own name
+named_so : (kind : Kind) → (weighing kind).named ≡ kind
+named_so kinds.Count = refl
+named_so kinds.Ranked = refl
+named_so kinds.Float = refl
 
 module _ (bytes : List ℕ) where
   -- what the bytes from a place on make, where a channel has been opened or none
@@ -80,8 +87,9 @@ module _ (bytes : List ℕ) where
               spelt =
                   says p.opened at (drop at bytes) (opens channel kind) (f.since ++ left.records) left.fault
                   (record { stands = stands_anywhere p.opened (opens channel kind) b.stands; spelt = b.spelt })
-                  (subst (λ t. Spells (Some kind) (at + 4) t (f.since ++ left.records) left.fault) (sym (drop-drop 4 at bytes))
-                  (f.spelt left.records left.fault left.spelt));
+                  (subst (λ k. Spells (Some k) (at + 4) (drop 4 (drop at bytes)) (f.since ++ left.records) left.fault) (named_so kind)
+                  (subst (λ t. Spells (Some (weighing kind).named) (at + 4) t (f.since ++ left.records) left.fault) (sym (drop-drop 4 at bytes))
+                  (f.spelt left.records left.fault left.spelt)));
               told = opening channel kind h.receiver h.memory f.since left.records f.lines left.lines h.tuned f.goes left.told;
               shown =
                   ap (λ t. line ++ t)

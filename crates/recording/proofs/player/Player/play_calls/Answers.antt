@@ -1,6 +1,6 @@
-use Rattle.std.proofs.Common.{◌≡◌, ◌++◌, drop, true, false, string_bytes, sym, refl, ap, ◌∙◌, subst}
+use Rattle.std.proofs.Common.{◌≡◌, ◌++◌, drop, Some, None, true, false, string_bytes, sym, refl, ap, ◌∙◌, subst}
 use Rattle.recording.specs.Lines.{opened_line, written}
-use Rattle.recording.specs.Playing.{weighed, Wrote, Turns, PlaysCalls}
+use Rattle.recording.specs.Playing.{weighed, Comes, Wrote, Turns, PlaysCalls}
 use Rattle.records.specs.Records.{said, Stands, Begins}
 use Rattle.link.specs.Calls.{sizes}
 use Rattle.stations.specs.Stations.{memory}
@@ -35,7 +35,7 @@ loop-record-preserved g c =
     let text = string_bytes q.lines in
     let text' = string_bytes c.answer.new.lines in
     let says = said c.in-Some.record in
-    let found = c.in-Some.ensures in
+    let found = subst (λ k. Comes (Some k) q (Some (c.in-Some.record, c.in-Some.after))) c.KIND.ensures c.in-Some.ensures in
     let wrote : Wrote w says s text s' text' = subst (λ b. Turns w says s text b s' text') c.if-not-branch.false c.in_ok-answer.ensures in
     record {
       same = i.same;
@@ -58,7 +58,7 @@ returns g c =
     elim c.match-next.branch [
       | in-Some+in_ok-answer+then-not-branch v ↦
           let says = said v.in-Some.record in
-          let found = v.in-Some.ensures in
+          let found = subst (λ k. Comes (Some k) q (Some (v.in-Some.record, v.in-Some.after))) c.KIND.ensures v.in-Some.ensures in
           let turned : Turns w says s text false v.answer.new.station (string_bytes v.answer.new.lines) =
           subst (λ b. Turns w says s text b v.answer.new.station (string_bytes v.answer.new.lines)) v.if-not-branch.true v.in_ok-answer.ensures in
           subst (λ q'. PlaysCalls w c.args.channel p q') (sym v.self-is)
@@ -68,5 +68,5 @@ returns g c =
           })
       | in_default v ↦
           subst (λ q'. PlaysCalls w c.args.channel p q') (sym v.self-is)
-          (record { same = i.same; after = after text refl (λ t b. absurd (v.in_default.ensures t b)) })
+          (record { same = i.same; after = after text refl (λ t b. absurd (subst (λ k. Comes (Some k) q None) c.KIND.ensures v.in_default.ensures t b)) })
     ]
