@@ -4,8 +4,9 @@
     python3 tools/reference.py send $(cat crates/sendburst/args) < crates/sendburst/stdin       what sendburst is to write of messages
     python3 tools/reference.py vectors < crates/vectors/stdin      what vectors is to print of an outside encoder's bursts
 
-The stored outputs of the programs are what it makes. `vectors` also says on standard error of each block whether it is not the message
-sent, not the only one of the least cost, or told with a cost or a heard count that are not those of what was done to the burst.
+The stored outputs of the programs are what it makes. `vectors` also says on standard error of each block whether it is refused, not the
+message sent, not the only one of the least cost, or told with a cost or a heard count that are not those of what was done to the burst.
+Floats are reckoned in whole numbers; the machine's own have no part in what is made.
 """
 
 import sys
@@ -88,15 +89,27 @@ CHANNELS = [
 
 
 class Count:
-    name, nothing, zero = "count", 2, 0
+    name, width, nothing, zero = "count", 1, 2, 0
 
     @staticmethod
-    def of_byte(byte):
-        return byte
+    def of_bytes(given):
+        return given[0]
+
+    @staticmethod
+    def bytes_of(sample):
+        return bytes([sample])
 
     @staticmethod
     def fit(sample):
         return sample <= 2
+
+    @staticmethod
+    def silent(sample):
+        return sample == 2
+
+    @staticmethod
+    def clean(bit):
+        return bit
 
     @staticmethod
     def heard(bit, strength):
@@ -112,15 +125,27 @@ class Count:
 
 
 class Ranked:
-    name, nothing, zero = "ranked", 0, (0, 0)
+    name, width, nothing, zero = "ranked", 1, 0, (0, 0)
 
     @staticmethod
-    def of_byte(byte):
-        return byte - 256 * (byte > 127)
+    def of_bytes(given):
+        return int.from_bytes(given, "big", signed=True)
+
+    @staticmethod
+    def bytes_of(sample):
+        return sample.to_bytes(1, "big", signed=True)
 
     @staticmethod
     def fit(sample):
         return sample >= -127
+
+    @staticmethod
+    def silent(sample):
+        return sample == 0
+
+    @staticmethod
+    def clean(bit):
+        return Ranked.heard(bit, 127)
 
     @staticmethod
     def heard(bit, strength):
@@ -138,41 +163,100 @@ class Ranked:
         return "%d/%d" % cost
 
 
-KINDS = [Count, Ranked]
+# The size of a float is a whole number of 2^-149, which is the least. What is no number has a size beyond infinity.
+ONE, INFINITE = 1 << 149, 1 << 277
+
+
+def size_of(word):
+    """The size of a float by its 31 bits without the sign."""
+    power, figures = word >> 23, word & 0x7FFFFF
+    return (1 << 23 | figures) << power - 1 if power else figures
+
+
+def word_of(size):
+    """The bits of a float of this size."""
+    past = max(size.bit_length() - 24, 0)
+    return (past << 23) + (size >> past)
+
+
+def rounded(number, divisor=1):
+    """The size nearest to a quotient: 24 figures, ties to even, and infinity where that is beyond the largest."""
+    unit = divisor << max((number // divisor).bit_length() - 24, 0)
+    whole, rest = divmod(number, unit)
+    return min((whole + (2 * rest + whole % 2 > unit)) * (unit // divisor), INFINITE)
+
+
+class Float:
+    """A sample is its sign, 1 where it is negative, and its size."""
+
+    name, width, nothing, zero = "float", 4, (0, 0), 0
+
+    @staticmethod
+    def of_bytes(given):
+        sign, word = divmod(int.from_bytes(given, "big"), 1 << 31)
+        return sign, size_of(word)
+
+    @staticmethod
+    def bytes_of(sample):
+        sign, size = sample
+        return (sign << 31 | word_of(size)).to_bytes(4, "big")
+
+    @staticmethod
+    def fit(sample):
+        return sample[1] <= 1000 * ONE
+
+    @staticmethod
+    def silent(sample):
+        return sample[1] == 0
+
+    @staticmethod
+    def clean(bit):
+        return bit, ONE
+
+    @staticmethod
+    def heard(bit, strength):
+        return bit, rounded(strength * strength * ONE, 17)
+
+    @staticmethod
+    def grown(cost, sample, bit):
+        sign, size = sample
+        return cost if sign == bit else rounded(cost + size)
+
+    @staticmethod
+    def shown(cost):
+        return "%08X" % word_of(cost)
+
+
+KINDS = [Count, Ranked, Float]
 NAMES = ["bench", "bcch", "data24", "data96"]
 
 
 def decoded(channel, kind, due):
-    """The path of the trellis rule without its closing zeros, its cost, and how many paths cost as little."""
-    kept = {(0,) * channel.memory: (kind.zero, (), 1)}
+    """The path of the trellis rule without its closing zeros, its cost, and whether every other path costs more."""
+    kept = {(0,) * channel.memory: [(kind.zero, ())]}
     for t in range(channel.steps):
-        met = [channel.places.get(len(channel.rows) * t + i) for i in range(len(channel.rows))]
+        places = [channel.places.get(len(channel.rows) * t + i) for i in range(len(channel.rows))]
         after = {}
-        # Of two registers that become one, that which drops a 0 comes first, and stays unless the other is cheaper.
+        # Of two registers that become one, that which drops a 0 comes first, and stays first unless the other is cheaper.
         for register in sorted(kept, key=lambda register: register[-1]):
-            cost, path, ways = kept[register]
             for bit in (0, 1) if t < channel.protected else (0,):
                 window = (bit,) + register
-                grown = cost
-                for row, at in zip(channel.rows, met):
-                    if at:
-                        place, turn = at
-                        grown = kind.grown(grown, due[place], sum(window[age] for age in row) % 2 ^ turn)
-                other = after.get(window[:-1])
-                if other is None or grown < other[0]:
-                    after[window[:-1]] = (grown, path + (bit,), ways)
-                elif grown == other[0]:
-                    after[window[:-1]] = other[:2] + (other[2] + ways,)
-        kept = after
-    cost, path, ways = kept[(0,) * channel.memory]
-    return list(path[: channel.protected]), cost, ways
+                met = [(due[at[0]], sum(window[age] for age in row) % 2 ^ at[1]) for row, at in zip(channel.rows, places) if at]
+                for cost, path in kept[register]:
+                    for sample, value in met:
+                        cost = kind.grown(cost, sample, value)
+                    after.setdefault(window[:-1], []).append((cost, path + (bit,)))
+        # The two cheapest of each register lead to the two cheapest of all, since growing two costs alike turns no order about.
+        kept = {register: sorted(paths, key=lambda run: run[0])[:2] for register, paths in after.items()}
+    (cost, path), (other, _) = kept[(0,) * channel.memory]
+    return list(path[: channel.protected]), cost, cost < other
 
 
 class Receiver:
     def __init__(self, channel, kind):
         self.channel, self.kind, self.bursts = channel, kind, []
-        # Of the block told last, how many runs cost as little.
-        self.ways = None
+        # Of the block told last, whether every other path costs more.
+        self.only = None
 
     def hear(self, samples):
         if len(self.bursts) == MOST_BURSTS:
@@ -202,32 +286,34 @@ class Receiver:
         if block < 0:
             return "W %d" % (len(self.bursts) - 1)
         due = [self.bursts[block + place % self.channel.depth][place] for place in range(self.channel.burst)]
-        path, cost, self.ways = decoded(self.channel, self.kind, due)
+        path, cost, self.only = decoded(self.channel, self.kind, due)
         message = path[: self.channel.message]
         if self.channel.parity and path[self.channel.message :] != parity(message):
             return "X 11 0"
-        heard = sum(sample != self.kind.nothing for sample in due)
+        heard = sum(not self.kind.silent(sample) for sample in due)
         return "B %d %s %d %s" % (block, self.kind.shown(cost), heard, "".join(map(str, message)))
 
 
-def record(data, at):
-    """The mark at an offset, what belongs to it, and the length of both; nothing where no whole record begins."""
+def record(data, at, width):
+    """The mark at an offset, what belongs to it, and the length of both, samples being so wide; nothing where no whole record begins."""
     mark, rest = data[at : at + 2], data[at + 2 :]
     if mark in (b"MI", b"ST", b"RE"):
         return mark, None, 2
-    if mark == b"OP" and len(rest) >= 2 and rest[0] < 4 and rest[1] < 2:
+    if mark == b"OP" and len(rest) >= 2 and rest[0] < len(CHANNELS) and rest[1] < len(KINDS):
         return mark, rest[:2], 4
     if mark == b"HE" and len(rest) >= 2:
         count = int.from_bytes(rest[:2], "big")
-        if count <= 1024 and len(rest) >= 2 + count:
-            return mark, rest[2 : 2 + count], 4 + count
+        length = count * width
+        if count <= 1024 and len(rest) >= 2 + length:
+            return mark, rest[2 : 2 + length], 4 + length
     return None
 
 
 def play(data):
     at, receiver = 0, None
     while at < len(data):
-        found = record(data, at)
+        width = receiver.kind.width if receiver else 1
+        found = record(data, at, width)
         if found is None or (receiver is None and found[0] != b"OP"):
             yield "X 12 %d" % at
             return
@@ -236,7 +322,7 @@ def play(data):
             receiver = Receiver(CHANNELS[given[0]], KINDS[given[1]])
             yield "O %d" % given[0]
         elif mark == b"HE":
-            yield receiver.hear([receiver.kind.of_byte(byte) for byte in given])
+            yield receiver.hear([receiver.kind.of_bytes(given[i : i + width]) for i in range(0, len(given), width)])
         else:
             yield {b"MI": receiver.miss, b"ST": receiver.stolen, b"RE": receiver.restart}[mark]()
         at += taken
@@ -249,7 +335,7 @@ def heard_under(condition, kind, n, burst):
     steps = [k + 7 * n for k in range(len(burst))]
     if condition == "noise":
         return [kind.heard(bit ^ (step % 37 == 0), 1 + step % 127) for step, bit in zip(steps, burst)]
-    clean = [kind.heard(bit, 127) for bit in burst]
+    clean = [kind.clean(bit) for bit in burst]
     if condition == "erasures":
         return [kind.nothing if step % 6 == 0 else sample for step, sample in zip(steps, clean)]
     return clean
@@ -283,22 +369,25 @@ def bits(word):
 
 
 def doubts(receiver, line, messages, bursts):
-    """What is not to be expected of a block told."""
+    """What is not to be expected of an answer."""
+    if line[0] == "X":
+        yield "refused"
     if line[0] != "B":
         return
     _, block, cost, heard, message = line.split()
     depth, kind = receiver.channel.depth, receiver.kind
     expected, lost = kind.zero, 0
-    for place in range(receiver.channel.burst):
+    # In the order of the coded bits: where sums are rounded, another order may make another cost.
+    for place, _ in receiver.channel.places.values():
         n = int(block) + place % depth
         sample = receiver.bursts[n][place]
         expected = kind.grown(expected, sample, bursts[n][place])
-        lost += sample == kind.nothing
+        lost += kind.silent(sample)
     if bits(message) != messages[int(block)]:
         yield "not the message sent"
     elif cost != kind.shown(expected):
         yield "a cost that is not that of the message sent"
-    if receiver.ways != 1:
+    if not receiver.only:
         yield "not the only block of its cost"
     if int(heard) != receiver.channel.burst - lost:
         yield "a heard count that is not that of the places heard"
@@ -319,7 +408,7 @@ def vectors(lines):
                     line = receiver.miss() if heard is None else receiver.hear(heard)
                     yield "%s %s %s %s" % (name, kind.name, condition, line)
                     for doubt in doubts(receiver, line, messages, bursts):
-                        print("%s %s %s %s: %s" % (name, kind.name, condition, line.split()[1], doubt), file=sys.stderr)
+                        print("%s %s %s, block %d: %s" % (name, kind.name, condition, n + 1 - channel.depth, doubt), file=sys.stderr)
 
 
 def send(words, lines):
@@ -329,10 +418,10 @@ def send(words, lines):
     bursts = sent(CHANNELS[number], [bits(line) for line in lines])
     if not options:
         return "".join("".join(map(str, burst)) + "\n" for burst in bursts).encode()
-    kind = [kind.name for kind in KINDS].index(options[1])
-    written = b"OP" + bytes([number, kind])
+    kind = next(kind for kind in KINDS if kind.name == options[1])
+    written = b"OP" + bytes([number, KINDS.index(kind)])
     for burst in bursts:
-        written += b"HE" + len(burst).to_bytes(2, "big") + bytes(KINDS[kind].heard(bit, 127) & 255 for bit in burst)
+        written += b"HE" + len(burst).to_bytes(2, "big") + b"".join(kind.bytes_of(kind.clean(bit)) for bit in burst)
     return written
 
 
