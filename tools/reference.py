@@ -215,7 +215,7 @@ class Float:
 
     @staticmethod
     def heard(bit, strength):
-        return bit, rounded(strength * strength * ONE, 17)
+        return bit, rounded((strength + 200) * ONE, 17)
 
     @staticmethod
     def grown(cost, sample, bit):
