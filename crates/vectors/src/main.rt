@@ -11,6 +11,7 @@ mod vector;
 mod voiced;
 
 use cost::count::Count;
+use cost::float::Float;
 use cost::ranked::Ranked;
 use decoding::decode;
 use sending::send;
@@ -22,6 +23,7 @@ fn try_all(rt: &HostRuntime, vectors: &[Vector<'_>]) -> anyhow::Result<()> {
         send(rt, name, channel, vectors)?;
         decode::<Count>(rt, name, channel, vectors)?;
         decode::<Ranked>(rt, name, channel, vectors)?;
+        decode::<Float>(rt, name, channel, vectors)?;
     }
     Ok(())
 }

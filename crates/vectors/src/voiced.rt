@@ -1,5 +1,6 @@
 // A kind of cost by its name, and how it hears a bit of some strength.
 use cost::count::Count;
+use cost::float::Float;
 use cost::kind::Cost;
 use cost::ranked::Ranked;
 
@@ -24,5 +25,15 @@ impl Voiced for Ranked {
     fn sample(bit: bool, strength: u8) -> i8 {
         let level = i8::try_from(strength).unwrap_or(i8::MAX);
         if bit { -level } else { level }
+    }
+}
+
+impl Voiced for Float {
+    const NAME: &'static str = "float";
+
+    // Seventeenths, so that the sums of the sizes are rounded.
+    fn sample(bit: bool, strength: u8) -> f32 {
+        let size = f32::from(u16::from(strength) + 200) / 17.0;
+        if bit { -size } else { size }
     }
 }
