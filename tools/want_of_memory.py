@@ -16,7 +16,7 @@ import tempfile
 
 READBURST, SENDBURST = "crates/readburst", "crates/sendburst"
 CHANNELS = {"bench": 6, "bcch": 192, "data24": 144, "data96": 480}
-KINDS = ("count", "ranked")
+KINDS = ("count", "ranked", "float")
 
 
 def stored(folder, name):
