@@ -3,7 +3,7 @@ use Rattle.std.specs.Prelude.{◌≡◌, ◌≢◌, ℕ, List, Option, Some, Non
 use Rattle.channels.specs.declared.channel.Channel.{Channel}
 use Rattle.channels.specs.declared.channel.Channel.TheVariants.{Bench, Bcch, Data24, Data96}
 use Rattle.records.specs.declared.record.Kind.{Kind}
-use Rattle.records.specs.declared.record.Kind.TheVariants.{Count, Ranked}
+use Rattle.records.specs.declared.record.Kind.TheVariants.{Count, Ranked, Float}
 
 abbrev pub channel_name : Channel → List ℕ
 channel_name Bench = codes "bench"
@@ -14,6 +14,7 @@ channel_name Data96 = codes "data96"
 abbrev pub kind_name : Kind → List ℕ
 kind_name Count = codes "count"
 kind_name Ranked = codes "ranked"
+kind_name Float = codes "float"
 
 -- what a word is taken for: the one whose name it is, or nothing where it is the name of none
 abbrev pub Named : {A : Type 0} → (A → List ℕ) → List ℕ → Option A → Type 0

@@ -1,10 +1,12 @@
 // How bursts are written: each as a line of figures, or all as a recording, by the clean samples of a kind of cost.
-ghost use Rattle.std.specs.Prelude.{◌≡◌, ◌<◌, ◌++◌, MatchResult, OnOk, length};
-ghost use Rattle.records.specs.declared.spell.SpellError.TheVariants.{TooLong, OutOfMemory};
-ghost use Rattle.sendburst.specs.Written.{burst_written, clean_byte, figure_line, heading};
+ghost use Rattle.std.specs.Prelude.{◌≡◌, ◌*◌, ◌++◌, IfOk, MatchResult, OnOk, length};
+ghost use Rattle.records.specs.Records.{width};
+ghost use Rattle.records.specs.declared.spell.SpellError.TheVariants.{OutOfMemory};
+ghost use Rattle.sendburst.specs.Written.{burst_written, clean_burst, clean_bytes, figure_line, heading, NotWritten};
 
 use channels::channel::Channel;
 use cost::count::Count;
+use cost::float::Float;
 use cost::kind::Cost;
 use cost::ranked::Ranked;
 use records::record::{Kind, Record};
@@ -24,27 +26,29 @@ impl Form {
     {
         match self {
             Form::Figures => Ok(()),
-            Form::Recording(kind) => spell(Record::Open { channel, kind }, written),
+            Form::Recording(kind) => spell(None, Record::Open { channel, kind }, written),
         }
     }
 
-    // One burst, whose bits stand one to a byte; it is too long only where a record would hold more than 1,024 samples.
+    // One burst, whose bits stand one to a byte; it is not written only where a record would hold more than 1,024 samples, or for want of
+    // memory.
     pub(crate) fn put(
         self,
         heap: Global,
         burst: &[u8],
         written: &mut Vec<u8>,
     ) -> Result<(), SpellError>
-        ensures { MatchResult result (λ _. written.new.items ≡ written.old.items ++ burst_written self burst.now) (λ e. e ≡ TooLong → 1024 < length burst.now) }
+        ensures { MatchResult result (λ _. written.new.items ≡ written.old.items ++ burst_written self burst.now) (NotWritten burst.now) }
     {
         match self {
             Form::Figures => Ok(put_figures(burst, written)?),
             Form::Recording(kind) => {
-                let samples: Vec<u8> = burst
-                    .iter()
-                    .map(|bit| clean_byte(kind, *bit > 0))
-                    .collect(heap)?;
-                spell(Record::Hear(&samples), written)
+                let samples = clean_burst(heap, kind, burst)?;
+                let heard = Record::Hear {
+                    count: burst.len(),
+                    samples: &samples,
+                };
+                spell(Some(kind), heard, written)
             },
         }
     }
@@ -60,12 +64,24 @@ fn put_figures(burst: &[u8], written: &mut Vec<u8>) -> Result<(), AllocError>
     Ok(())
 }
 
-// The byte that spells the clean sample of a bit.
-fn clean_byte(kind: Kind, bit: bool) -> u8
-    ensures { result ≡ clean_byte kind bit }
+// The bytes that spell the clean samples of the bits of a burst.
+fn clean_burst(heap: Global, kind: Kind, burst: &[u8]) -> Result<Vec<u8>, AllocError>
+    ensures { IfOk result (λ samples. (samples.items ≡ clean_burst kind burst.now) × (length samples.items ≡ width kind * length burst.now)) }
+{
+    let mut samples = Vec::new(heap);
+    for bit in burst {
+        put_clean(kind, *bit > 0, &mut samples)?;
+    }
+    Ok(samples)
+}
+
+fn put_clean(kind: Kind, bit: bool, samples: &mut Vec<u8>) -> Result<(), AllocError>
+    ensures { OnOk result (samples.new.items ≡ samples.old.items ++ clean_bytes kind bit) }
 {
     match kind {
-        Kind::Count => Count::clean_sample(bit),
-        Kind::Ranked => Ranked::clean_sample(bit).cast_unsigned(),
+        Kind::Count => samples.push(Count::clean_sample(bit))?,
+        Kind::Ranked => samples.push(Ranked::clean_sample(bit).cast_unsigned())?,
+        Kind::Float => samples.extend_from_slice(&Float::clean_sample(bit).to_be_bytes())?,
     }
+    Ok(())
 }

@@ -16,9 +16,11 @@ const COUNT: &str = "count";
 
 const RANKED: &str = "ranked";
 
+const FLOAT: &str = "float";
+
 pub(crate) const CHANNELS: [&str; 4] = [BENCH, BCCH, DATA24, DATA96];
 
-pub(crate) const KINDS: [&str; 2] = [COUNT, RANKED];
+pub(crate) const KINDS: [&str; 3] = [COUNT, RANKED, FLOAT];
 
 pub(crate) fn channel_named(name: &str) -> Option<Channel>
     ensures { Named channel_name name.now result }
@@ -38,6 +40,7 @@ pub(crate) fn kind_named(name: &str) -> Option<Kind>
     match name {
         COUNT => Some(Kind::Count),
         RANKED => Some(Kind::Ranked),
+        FLOAT => Some(Kind::Float),
         _ => None,
     }
 }
