@@ -11,7 +11,6 @@ use Rattle.link.specs.Histories.{History, begun, heard, missed, stole, restarted
 use Rattle.link.specs.Rules.{first, memory_rules, needed}
 use Rattle.link.specs.declared.format.Format.{Format}
 use Rattle.link.specs.declared.receiver.Receiver.{Receiver}
-use Rattle.link.specs.declared.report.Report.{Report}
 use Rattle.recording.specs.Answers.{Enough, Goes, ends, hearing, missing, stealing, restarting}
 use Rattle.recording.specs.Kinds.{Weighing}
 use Rattle.recording.specs.Lines.{opened_line, answer_line, stolen_line, restarted_line, written}

@@ -1,4 +1,4 @@
-use Rattle.std.proofs.Common.{◌≡◌, ◌++◌, drop, Some, None, true, false, string_bytes, sym, refl, ap, ◌∙◌, subst}
+use Rattle.std.proofs.Common.{◌++◌, drop, Some, None, false, string_bytes, sym, refl, ap, ◌∙◌, subst}
 use Rattle.recording.specs.Lines.{opened_line, written}
 use Rattle.recording.specs.Playing.{weighed, Comes, Wrote, Turns, PlaysCalls}
 use Rattle.records.specs.Records.{said, Stands, Begins}
