@@ -20,7 +20,7 @@ const UNKNOWN: [(&[u8], &str); 7] = [
     (b"OP\x00\x00REMOMI", "O 0\nR\nX 12 6\n"),
     (b"OP\x03\x01op\x00\x00", "O 3\nX 12 4\n"),
     (b"OP\x04\x00MI", "X 12 0\n"),
-    (b"OP\x00\x02MI", "X 12 0\n"),
+    (b"OP\x00\x03MI", "X 12 0\n"),
     (b"OP\x02\x00MIOP\xFF\x01", "O 2\nW 0\nX 12 6\n"),
     (b"OP\x02\x00MIOP\x01\xFF", "O 2\nW 0\nX 12 6\n"),
 ];
