@@ -8,6 +8,8 @@ mod bursts;
 #[cfg(test)]
 mod codes;
 #[cfg(test)]
+mod floats;
+#[cfg(test)]
 mod limits;
 #[cfg(test)]
 mod lines;

@@ -4,6 +4,7 @@ use crate::bursts::{
 };
 use channels::channel::Channel;
 use cost::count::Count;
+use cost::float::Float;
 use cost::kind::Cost;
 use cost::ranked::Ranked;
 use link::refusal::Refusal;
@@ -118,7 +119,8 @@ fn trip_by_each_kind(
     messages: &[&str],
 ) -> Result<(), Fail> {
     trip::<Count>(rt, heap, channel, messages)?;
-    trip::<Ranked>(rt, heap, channel, messages)
+    trip::<Ranked>(rt, heap, channel, messages)?;
+    trip::<Float>(rt, heap, channel, messages)
 }
 
 #[test]
