@@ -6,6 +6,7 @@ use std::test::*;
 
 mod blocks;
 mod faults;
+mod floats;
 mod marks;
 mod refusals;
 mod spelt;
@@ -17,16 +18,16 @@ fn prints(rt: &impl Abort, alloc: Global, bytes: &[u8], lines: &str) -> Result<(
     Ok(())
 }
 
-// The same where so many samples that mean nothing follow the bytes.
+// The same where so many bytes of samples follow, each of them 2.
 fn long_burst(
     rt: &impl Abort,
     alloc: Global,
     header: &[u8],
-    samples: usize,
+    more: usize,
     lines: &str,
 ) -> Result<(), Fail> {
     let mut bytes = header.to_vec(alloc)?;
-    bytes.resize(header.len().saturating_add(samples), 2)?;
+    bytes.resize(header.len().saturating_add(more), 2)?;
     prints(rt, alloc, &bytes, lines)
 }
 
@@ -44,15 +45,19 @@ enum Part<'a> {
     Bytes(&'a [u8]),
     Count(&'a str),
     Ranked(&'a str),
-    // With another sample at one place.
+    Float(&'a str),
+    // With another sample at one place, a float by its bits.
     CountBut(&'a str, usize, u8),
     RankedBut(&'a str, usize, u8),
+    FloatBut(&'a str, usize, u32),
 }
 
-// The sample bytes of the bits 0 and 1 heard clean.
-const COUNT: [u8; 2] = [0, 1];
+// The bytes of the bits 0 and 1 heard clean.
+const COUNT: [&[u8]; 2] = [b"\x00", b"\x01"];
 
-const RANKED: [u8; 2] = [0x7F, 0x81];
+const RANKED: [&[u8]; 2] = [b"\x7F", b"\x81"];
+
+const FLOAT: [&[u8]; 2] = [b"\x3F\x80\x00\x00", b"\xBF\x80\x00\x00"];
 
 // What the parts and the texts together spell.
 fn plays(rt: &impl Abort, alloc: Global, parts: &[Part<'_>], texts: &[&str]) -> Result<(), Fail> {
@@ -82,31 +87,34 @@ fn put(bytes: &mut Vec<u8>, part: Part<'_>) -> Result<(), AllocError> {
         Part::Bytes(more) => bytes.extend_from_slice(more),
         Part::Count(burst) => put_burst(bytes, COUNT, burst, None),
         Part::Ranked(burst) => put_burst(bytes, RANKED, burst, None),
-        Part::CountBut(burst, k, sample) => put_burst(bytes, COUNT, burst, Some((k, sample))),
-        Part::RankedBut(burst, k, sample) => put_burst(bytes, RANKED, burst, Some((k, sample))),
+        Part::Float(burst) => put_burst(bytes, FLOAT, burst, None),
+        Part::CountBut(burst, k, sample) => put_burst(bytes, COUNT, burst, Some((k, &[sample]))),
+        Part::RankedBut(burst, k, sample) => put_burst(bytes, RANKED, burst, Some((k, &[sample]))),
+        Part::FloatBut(burst, k, sample) => put_burst(
+            bytes,
+            FLOAT,
+            burst,
+            Some((k, &sample.to_be_bytes())),
+        ),
     }
 }
 
 fn put_burst(
     bytes: &mut Vec<u8>,
-    clean: [u8; 2],
+    clean: [&[u8]; 2],
     burst: &str,
-    other: Option<(usize, u8)>,
+    other: Option<(usize, &[u8])>,
 ) -> Result<(), AllocError> {
     let figures = burst.as_bytes();
     bytes.extend_from_slice(b"HE")?;
     let count = u16::try_from(figures.len()).unwrap_or(u16::MAX);
     bytes.extend_from_slice(&count.to_be_bytes())?;
     for (k, figure) in figures.iter().enumerate() {
-        bytes.push(sample_at(clean, *figure, k, other))?;
+        match other {
+            Some((place, sample)) if place == k => bytes.extend_from_slice(sample)?,
+            _ if *figure == b'1' => bytes.extend_from_slice(clean[1])?,
+            _ => bytes.extend_from_slice(clean[0])?,
+        }
     }
     Ok(())
-}
-
-fn sample_at(clean: [u8; 2], figure: u8, k: usize, other: Option<(usize, u8)>) -> u8 {
-    match other {
-        Some((place, sample)) if place == k => sample,
-        _ if figure == b'1' => clean[1],
-        _ => clean[0],
-    }
 }

@@ -50,6 +50,28 @@ fn cut_records(rt: HostRuntime) -> Result<(), Fail> {
     each_prints(&rt, rt.alloc(), &CUT)
 }
 
+// Cut inside a float, and between two.
+const CUT_FLOATS: [(&[u8], &str); 7] = [
+    (b"OP\x00\x02HE\x00\x01", "O 0\nX 12 4\n"),
+    (b"OP\x00\x02HE\x00\x01\x3F", "O 0\nX 12 4\n"),
+    (b"OP\x00\x02HE\x00\x02\x3F\x80\x00\x00", "O 0\nX 12 4\n"),
+    (b"OP\x00\x02HE\x00\x02\x3F\x80\x00\x00\xBF", "O 0\nX 12 4\n"),
+    (
+        b"OP\x00\x02HE\x00\x02\x3F\x80\x00\x00\xBF\x80",
+        "O 0\nX 12 4\n",
+    ),
+    (
+        b"OP\x00\x02HE\x00\x02\x3F\x80\x00\x00\xBF\x80\x00",
+        "O 0\nX 12 4\n",
+    ),
+    (b"OP\x00\x02REHE\x00\x01\x3F\x80\x00", "O 0\nR\nX 12 6\n"),
+];
+
+#[test]
+fn cut_floats(rt: HostRuntime) -> Result<(), Fail> {
+    each_prints(&rt, rt.alloc(), &CUT_FLOATS)
+}
+
 // The second record wants one byte more than there is.
 #[test]
 fn a_long_burst_cut(rt: HostRuntime) -> Result<(), Fail> {
@@ -80,6 +102,32 @@ fn most_samples(rt: HostRuntime) -> Result<(), Fail> {
         rt.alloc(),
         b"OP\x00\x00HE\x04\x01",
         1025,
+        "O 0\nX 12 4\n",
+    )
+}
+
+// The limit, and what refusal 6 tells, are of samples and not of their bytes.
+#[test]
+fn most_floats(rt: HostRuntime) -> Result<(), Fail> {
+    long_burst(
+        &rt,
+        rt.alloc(),
+        b"OP\x00\x02HE\x04\x00",
+        4096,
+        "O 0\nX 6 1024\n",
+    )?;
+    long_burst(
+        &rt,
+        rt.alloc(),
+        b"OP\x00\x02HE\x04\x00",
+        4095,
+        "O 0\nX 12 4\n",
+    )?;
+    long_burst(
+        &rt,
+        rt.alloc(),
+        b"OP\x00\x02HE\x04\x01",
+        4100,
         "O 0\nX 12 4\n",
     )
 }

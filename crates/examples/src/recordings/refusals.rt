@@ -30,13 +30,18 @@ fn wrong_parity_is_refused_and_counted(rt: HostRuntime) -> Result<(), Fail> {
             Part::Bytes(b"OP\x01\x01"),
             Part::Ranked(BCCH_0.burst),
             Part::Ranked(BCCH_WRONG_PARITY),
+            Part::Bytes(b"OP\x01\x02"),
+            Part::Float(BCCH_WRONG_PARITY),
+            Part::Float(BCCH_1.burst),
         ],
         &[
             "O 1\nX 11 0\nB 1 0 424 ",
             BCCH_1.message,
             "\nO 1\nB 0 0/0 424 ",
             BCCH_0.message,
-            "\nX 11 0\n",
+            "\nX 11 0\nO 1\nX 11 0\nB 1 00000000 424 ",
+            BCCH_1.message,
+            "\n",
         ],
     )
 }
@@ -55,11 +60,16 @@ fn wrong_numbers_of_samples(rt: HostRuntime) -> Result<(), Fail> {
             Part::Bytes(b"OP\x03\x01"),
             Part::Ranked(BCCH_0.burst),
             Part::Ranked(DATA24_0.burst),
+            Part::Bytes(b"OP\x02\x02"),
+            Part::Float(BCCH_0.burst),
+            Part::Float("0110"),
+            Part::Float(""),
+            Part::Float(DATA24_0.burst),
         ],
         &[
             "O 1\nX 6 648\nX 6 4\nX 6 0\nB 0 0 424 ",
             BCCH_0.message,
-            "\nO 3\nX 6 424\nW 0\n",
+            "\nO 3\nX 6 424\nW 0\nO 2\nX 6 424\nX 6 4\nX 6 0\nW 0\n",
         ],
     )
 }
@@ -81,6 +91,30 @@ fn unfit_samples(rt: HostRuntime) -> Result<(), Fail> {
             "O 1\nX 7 211\nB 0 0 424 ",
             BCCH_0.message,
             "\nO 1\nX 7 423\nB 0 0/0 424 ",
+            BCCH_0.message,
+            "\n",
+        ],
+    )
+}
+
+// The next floats beyond 1000, the infinities, and NaN of either sign; 1000 itself, for the zero at place 2, is fit.
+#[test]
+fn unfit_floats(rt: HostRuntime) -> Result<(), Fail> {
+    plays(
+        &rt,
+        rt.alloc(),
+        &[
+            Part::Bytes(b"OP\x01\x02"),
+            Part::FloatBut(BCCH_0.burst, 0, 0x447A_0001),
+            Part::FloatBut(BCCH_0.burst, 1, 0xC47A_0001),
+            Part::FloatBut(BCCH_0.burst, 211, 0x7F80_0000),
+            Part::FloatBut(BCCH_0.burst, 212, 0xFF80_0000),
+            Part::FloatBut(BCCH_0.burst, 422, 0x7FC0_0000),
+            Part::FloatBut(BCCH_0.burst, 423, 0xFF80_0001),
+            Part::FloatBut(BCCH_0.burst, 2, 0x447A_0000),
+        ],
+        &[
+            "O 1\nX 7 0\nX 7 1\nX 7 211\nX 7 212\nX 7 422\nX 7 423\nB 0 00000000 424 ",
             BCCH_0.message,
             "\n",
         ],
