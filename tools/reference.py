@@ -246,7 +246,7 @@ def decoded(channel, kind, due):
                     for sample, value in met:
                         cost = kind.grown(cost, sample, value)
                     after.setdefault(window[:-1], []).append((cost, path + (bit,)))
-        # The two cheapest of each register lead to the two cheapest of all, since growing two costs alike turns no order about.
+        # The two cheapest of each register lead to the two cheapest of all, since growing two costs alike leaves their order.
         kept = {register: sorted(paths, key=lambda run: run[0])[:2] for register, paths in after.items()}
     (cost, path), (other, _) = kept[(0,) * channel.memory]
     return list(path[: channel.protected]), cost, cost < other

@@ -3,7 +3,7 @@ use Rattle.std.specs.Prelude.{ℕ, zero, suc, ◌/◌, ◌%◌, true, List, [], 
 use Rattle.std.specs.Float.{binary32}
 use Rattle.std.specs.Fmt.{digit_glyph}
 use Rattle.cost.specs.declared.count.Count.{Count}
-use Rattle.cost.specs.declared.float.Float.{Float}
+use Rattle.cost.specs.declared.float.Float as cost
 use Rattle.cost.specs.declared.ranked.Ranked.{Ranked}
 
 abbrev pub count_figures : Count → List ℕ
@@ -19,5 +19,5 @@ hexadecimal zero n = []
 hexadecimal (suc k) n = hexadecimal k (n / 16) ++ (digit_glyph true (n % 16) ∷ [])
 
 -- the bits of the float
-abbrev pub float_figures : Float → List ℕ
+abbrev pub float_figures : cost.Float → List ℕ
 float_figures c = hexadecimal 8 (to_bits binary32 c.value)

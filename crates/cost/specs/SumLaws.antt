@@ -106,6 +106,7 @@ clean_raises_zero true = refl
 clean_raises_zero false = refl
 
 -- ---- samples
+-- a zero is fit and means nothing, and the clean samples are fit
 pub zero_is_silent : eq float_zero float_zero ≡ true
 unfolding eq
 zero_is_silent = refl
@@ -119,7 +120,7 @@ unfolding le lt eq float_with_sign
 clean_is_fit true = refl
 clean_is_fit false = refl
 
--- ---- the literals 0.0, -1.0 and 1000.0
+-- ---- the literals 0.0, -1.0 and 1000.0: what their bits are
 pub zero_is : of_bits binary32 0 ≡ float_zero
 unfolding of_bits
 zero_is = refl

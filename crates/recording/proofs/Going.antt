@@ -16,7 +16,7 @@ use Rattle.recording.specs.Kinds.{Weighing}
 use Rattle.recording.specs.Lines.{opened_line, answer_line, stolen_line, restarted_line, written}
 use Rattle.recording.specs.Playing.{rest, Same, Wrote, Follows, CallsAfter}
 use Rattle.recording.specs.declared.player.Player.{Player}
-use Rattle.records.specs.Recordings.{opened_by, Spells, says}
+use Rattle.records.specs.Recordings.{open_after, Spells, says}
 use Rattle.records.specs.Records.{Said, opens, hears, misses, steals, restarts, spelling, Stands, Begins}
 use Rattle.records.specs.declared.record.Kind.{Kind}
 use Rattle.stations.specs.Stations.{memory}
@@ -57,7 +57,7 @@ module _ (w : Weighing) (opened : Receiver w.C Laying w.S w.P) (bytes : List ℕ
   -- a call goes on with them
   goes_on : (r r' : Receiver w.C Laying w.S w.P) (m m' : Memory w.S w.P) (at : ℕ) (before text text' : List ℕ) (s : Said) (line : List ℕ)
       (g : Going r m at before text) (bursts : List (List w.S)) (h : History w.kind laying_line opened r' m'.ring bursts) →
-      sizes m' ≡ sizes m → Begins (Some w.named) (drop at bytes) s → opened_by (Some w.named) s ≡ Some w.named → text' ≡ text ++ written line →
+      sizes m' ≡ sizes m → Begins (Some w.named) (drop at bytes) s → open_after (Some w.named) s ≡ Some w.named → text' ≡ text ++ written line →
       ((since : List Said) (lines : List (List ℕ)) → Goes w opened r' m' bursts h since lines → Goes w opened r m g.bursts g.history (s ∷ since) (line ∷ lines)) →
       Going r' m' (at + length (spelling s)) before text'
   goes_on r r' m m' at before text text' s line g bursts h same b stays wrote goes =

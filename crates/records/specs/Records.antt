@@ -8,7 +8,7 @@ use Rattle.records.specs.declared.record.Kind.TheVariants.{Count, Ranked, Float}
 use Rattle.records.specs.declared.record.Record.{Record}
 use Rattle.records.specs.declared.record.Record.TheVariants.{Open, Hear, Miss, Stolen, Restart}
 use Rattle.records.specs.declared.spell.SpellError.{SpellError}
-use Rattle.records.specs.declared.spell.SpellError.TheVariants.{Unopened, TooLong, Uneven, OutOfMemory}
+use Rattle.records.specs.declared.spell.SpellError.TheVariants.{Unopened, TooLong, WrongWidth, OutOfMemory}
 
 -- what a record says
 pub data Said : Type 0 where
@@ -21,7 +21,7 @@ pub data Said : Type 0 where
 
 abbrev pub said : Record → Said
 said (Open channel kind) = opens channel kind
-said (Hear count samples) = hears count samples.now
+said (Hear count bytes) = hears count bytes.now
 said Miss = misses
 said Stolen = steals
 said Restart = restarts
@@ -41,15 +41,16 @@ width Float = 4
 -- the bytes of a record: its mark, and what belongs to it; a count has two bytes, the high one first
 abbrev pub spelling : Said → List ℕ
 spelling (opens channel kind) = 0x4F ∷ 0x50 ∷ channel_byte channel ∷ kind_byte kind ∷ []
-spelling (hears count samples) = 0x48 ∷ 0x45 ∷ count / 256 ∷ count % 256 ∷ samples
+spelling (hears count bytes) = 0x48 ∷ 0x45 ∷ count / 256 ∷ count % 256 ∷ bytes
 spelling misses = 0x4D ∷ 0x49 ∷ []
 spelling steals = 0x53 ∷ 0x54 ∷ []
 spelling restarts = 0x52 ∷ 0x45 ∷ []
 
--- while a channel is open at that kind, or none is open yet, the record may stand: first an opening, and a burst of at most 1,024 samples
+-- the record may stand while a channel is open at that kind, or none is open yet: with none only an opening; and a burst has at most 1,024
+-- samples, with as many bytes as they take
 abbrev pub Stands : Option Kind → Said → Type 0
 Stands opened (opens channel kind) = Unit {0}
-Stands (Some kind) (hears count samples) = (count ≤ 1024) × (length samples ≡ width kind * count)
+Stands (Some kind) (hears count bytes) = (count ≤ 1024) × (length bytes ≡ width kind * count)
 Stands (Some kind) s = Unit {0}
 Stands None s = ⊥
 
@@ -76,14 +77,14 @@ Reads opened bytes None = BeginsNone opened bytes
 abbrev pub not_spelt : SpellError → List ℕ
 not_spelt Unopened = codes "a recording begins with an opening"
 not_spelt TooLong = codes "a record has at most 1024 samples"
-not_spelt Uneven = codes "a record has as many bytes as its samples take"
+not_spelt WrongWidth = codes "a record has as many bytes as its samples take"
 not_spelt OutOfMemory = codes "out of memory"
 
 -- why a record is not spelt
 abbrev pub Amiss : SpellError → Option Kind → Said → Type 0
 Amiss Unopened None s = Stands None s → ⊥
-Amiss TooLong (Some kind) (hears count samples) = 1024 < count
-Amiss Uneven (Some kind) (hears count samples) = (count ≤ 1024) × (length samples ≢ width kind * count)
+Amiss TooLong (Some kind) (hears count bytes) = 1024 < count
+Amiss WrongWidth (Some kind) (hears count bytes) = (count ≤ 1024) × (length bytes ≢ width kind * count)
 Amiss OutOfMemory opened s = Stands opened s
 Amiss error opened s = ⊥
 

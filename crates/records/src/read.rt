@@ -39,6 +39,6 @@ fn heard<'a>(kind: Kind, high: u8, low: u8, rest: &'a [u8]) -> Option<(Record<'a
     if count > MOST {
         return None;
     }
-    let (samples, rest) = rest.split_at_checked(kind.width() * count)?;
-    Some((Record::Hear { count, samples }, rest))
+    let (bytes, rest) = rest.split_at_checked(kind.width() * count)?;
+    Some((Record::Hear { count, bytes }, rest))
 }

@@ -47,7 +47,7 @@ burst_written Figures bits = figure_line bits
 burst_written (Recording kind) bits = spelling (hears (length bits) (clean_burst kind bits))
 
 -- why a burst is not written: its record would hold more than 1,024 samples, or there is no memory for it
-abbrev pub NotWritten : List ℕ → SpellError → Type 0
-NotWritten bits TooLong = 1024 < length bits
-NotWritten bits OutOfMemory = Unit {0}
-NotWritten bits error = ⊥
+abbrev pub NotWritten : Form → List ℕ → SpellError → Type 0
+NotWritten (Recording kind) bits TooLong = 1024 < length bits
+NotWritten form bits OutOfMemory = Unit {0}
+NotWritten form bits error = ⊥

@@ -30,15 +30,15 @@ impl Form {
         }
     }
 
-    // One burst, whose bits stand one to a byte; it is not written only where a record would hold more than 1,024 samples, or for want of
-    // memory.
+    // One burst, whose bits stand one to a byte; it fails only where a record would hold more than 1,024 samples, or for want of memory, and
+    // what has then been added is free.
     pub(crate) fn put(
         self,
         heap: Global,
         burst: &[u8],
         written: &mut Vec<u8>,
     ) -> Result<(), SpellError>
-        ensures { MatchResult result (λ _. written.new.items ≡ written.old.items ++ burst_written self burst.now) (NotWritten burst.now) }
+        ensures { MatchResult result (λ _. written.new.items ≡ written.old.items ++ burst_written self burst.now) (NotWritten self burst.now) }
     {
         match self {
             Form::Figures => Ok(put_figures(burst, written)?),
@@ -46,7 +46,7 @@ impl Form {
                 let samples = clean_burst(heap, kind, burst)?;
                 let heard = Record::Hear {
                     count: burst.len(),
-                    samples: &samples,
+                    bytes: &samples,
                 };
                 spell(Some(kind), heard, written)
             },

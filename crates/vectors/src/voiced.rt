@@ -31,7 +31,7 @@ impl Voiced for Ranked {
 impl Voiced for Float {
     const NAME: &'static str = "float";
 
-    // Seventeenths, so that the sums of the sizes are rounded.
+    // Seventeenths, so that the sums of the sizes are rounded; 200 on top keeps the sizes close together, so that the message sent wins.
     fn sample(bit: bool, strength: u8) -> f32 {
         let size = f32::from(u16::from(strength) + 200) / 17.0;
         if bit { -size } else { size }

@@ -115,11 +115,7 @@ impl Cost for Float {
 fn summed(sum: f32, s: f32, bit: bool) -> f32
     ensures { result ≡ summed sum s bit }
 {
-    let overruled = if bit {
-        s > Float::NOTHING
-    } else {
-        s < Float::NOTHING
-    };
+    let overruled = if bit { s > 0.0 } else { s < 0.0 };
     if overruled { sum + s.abs() } else { sum }
 }
 

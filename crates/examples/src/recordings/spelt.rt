@@ -16,8 +16,8 @@ fn opening(channel: Channel, kind: Kind) -> Record<'static> {
     Record::Open { channel, kind }
 }
 
-fn heard<'a>(count: usize, samples: &'a [u8]) -> Record<'a> {
-    Record::Hear { count, samples }
+fn heard<'a>(count: usize, bytes: &'a [u8]) -> Record<'a> {
+    Record::Hear { count, bytes }
 }
 
 #[test]
@@ -58,16 +58,16 @@ fn a_record_that_may_not_stand_is_not_spelt(rt: HostRuntime) -> Result<(), Fail>
         (None, heard(1, b"\x02"), SpellError::Unopened),
         (None, heard(1025, &[2; 1025]), SpellError::Unopened),
         // a sample too few or too many
-        (COUNT, heard(3, b"\x00\x01"), SpellError::Uneven),
-        (RANKED, heard(3, b"\x00\x01\x81\x00"), SpellError::Uneven),
-        (FLOAT, heard(2, &[0; 4]), SpellError::Uneven),
-        (FLOAT, heard(2, &[0; 12]), SpellError::Uneven),
+        (COUNT, heard(3, b"\x00\x01"), SpellError::WrongWidth),
+        (RANKED, heard(3, b"\x00\x01\x81\x00"), SpellError::WrongWidth),
+        (FLOAT, heard(2, &[0; 4]), SpellError::WrongWidth),
+        (FLOAT, heard(2, &[0; 12]), SpellError::WrongWidth),
         // a byte too few or too many
-        (FLOAT, heard(2, &[0; 7]), SpellError::Uneven),
-        (FLOAT, heard(2, &[0; 9]), SpellError::Uneven),
+        (FLOAT, heard(2, &[0; 7]), SpellError::WrongWidth),
+        (FLOAT, heard(2, &[0; 9]), SpellError::WrongWidth),
         // as many bytes as the other width asks for
-        (FLOAT, heard(2, &[0; 2]), SpellError::Uneven),
-        (COUNT, heard(2, &[0; 8]), SpellError::Uneven),
+        (FLOAT, heard(2, &[0; 2]), SpellError::WrongWidth),
+        (COUNT, heard(2, &[0; 8]), SpellError::WrongWidth),
         (COUNT, heard(1025, &[2; 1025]), SpellError::TooLong),
         (RANKED, heard(1025, b""), SpellError::TooLong),
         (FLOAT, heard(1025, &[0; 4100]), SpellError::TooLong),

@@ -111,8 +111,8 @@ where
 {
     match record {
         Record::Open { .. } => return Ok(false),
-        Record::Hear { samples, .. } => {
-            let heard = C::Sample::samples(heap, samples)?;
+        Record::Hear { bytes, .. } => {
+            let heard = C::Sample::samples(heap, bytes)?;
             let reply = station.hear(&heard);
             let message = Bits(station.message());
             put(lines, &Line::Answered(reply, message))?;
