@@ -59,7 +59,11 @@ fn a_record_that_may_not_stand_is_not_spelt(rt: HostRuntime) -> Result<(), Fail>
         (None, heard(1025, &[2; 1025]), SpellError::Unopened),
         // a sample too few or too many
         (COUNT, heard(3, b"\x00\x01"), SpellError::WrongWidth),
-        (RANKED, heard(3, b"\x00\x01\x81\x00"), SpellError::WrongWidth),
+        (
+            RANKED,
+            heard(3, b"\x00\x01\x81\x00"),
+            SpellError::WrongWidth,
+        ),
         (FLOAT, heard(2, &[0; 4]), SpellError::WrongWidth),
         (FLOAT, heard(2, &[0; 12]), SpellError::WrongWidth),
         // a byte too few or too many
