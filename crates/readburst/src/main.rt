@@ -3,13 +3,13 @@
 
 use anyhow::ensure;
 use recording::play::play;
-use std::env;
+use std::env::{Env, FillError};
 use std::io::Read;
 
 fn main(rt: HostRuntime) -> anyhow::Result<()> {
-    let arguments = env::args(&rt)?.count();
+    // Whether one follows the name that the program has, and no more: neither need be UTF-8.
     ensure!(
-        arguments <= 1,
+        matches!(rt.arg(1, &mut []), Err(FillError::NotPresent)),
         "no arguments are taken: the recording is read from standard input"
     );
     let mut bytes = Vec::new(rt.alloc());
