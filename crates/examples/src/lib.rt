@@ -22,4 +22,6 @@ mod recordings;
 #[cfg(test)]
 mod sending;
 #[cfg(test)]
+mod taken;
+#[cfg(test)]
 mod told;

@@ -13,11 +13,11 @@ use Rattle.link.specs.declared.format.Format.{Format}
 use Rattle.link.specs.declared.receiver.Receiver.{Receiver}
 use Rattle.recording.specs.Answers.{Enough, Goes, ends, hearing, missing, stealing, restarting}
 use Rattle.recording.specs.Kinds.{Weighing}
-use Rattle.recording.specs.Lines.{opened_line, answer_line, stolen_line, restarted_line, written}
-use Rattle.recording.specs.Playing.{rest, Same, Wrote, Follows, CallsAfter}
+use Rattle.recording.specs.Lines.{answer_line, stolen_line, restarted_line, written}
+use Rattle.recording.specs.Playing.{rest, NoCall, Same, Wrote, Follows, CallsAfter}
 use Rattle.recording.specs.declared.player.Player.{Player}
 use Rattle.records.specs.Recordings.{open_after, Spells, says}
-use Rattle.records.specs.Records.{Said, opens, hears, misses, steals, restarts, spelling, Stands, Begins}
+use Rattle.records.specs.Records.{Said, opens, hears, misses, steals, restarts, spelling, Begins}
 use Rattle.records.specs.declared.record.Kind.{Kind}
 use Rattle.stations.specs.Stations.{memory}
 use Rattle.stations.specs.declared.station.Station.{Station}
@@ -152,13 +152,12 @@ module _ (w : Weighing) (opened : Receiver w.C Laying w.S w.P) (bytes : List ℕ
       (g.gives at [] (record { since = []; lines = []; goes = ends r m g.bursts g.history (enough m g.room); spelt = λ records fault left. left; shown = refl }))
 
 -- before the first call
-pub going_begun : (w : Weighing) (bytes : List ℕ) (start : ℕ) (s : Station w.C w.S w.P) (before : List ℕ) →
-    sizes (memory s) ≡ needed s.receiver.format → start ≤ length bytes →
-    Going w s.receiver bytes start (memory s) s.receiver (memory s) start before before
-going_begun w bytes start s before room within =
+pub going_begun : (w : Weighing) (bytes : List ℕ) (start : ℕ) (r : Receiver w.C Laying w.S w.P) (m : Memory w.S w.P) (before : List ℕ) →
+    sizes m ≡ needed r.format → start ≤ length bytes → Going w r bytes start m r m start before before
+going_begun w bytes start r m before room within =
     record {
       bursts = [];
-      history = begun (memory s).ring;
+      history = begun m.ring;
       room = room;
       forward = omega arith;
       within = within;
@@ -174,11 +173,11 @@ pub record GoingBy (w : Weighing) (p : Player) (before : List ℕ) (first : Stat
 
 -- where they stop, all calls after the opening have been played
 pub calls_after : (w : Weighing) (p : Player) (channel : Channel) (first : Station w.C w.S w.P) (q : Player) (s : Station w.C w.S w.P) →
-    Tuned w.kind channel first.receiver → GoingBy w p (string_bytes p.lines ++ written (opened_line channel)) first q s →
-    (text : List ℕ) → text ≡ string_bytes q.lines → ((t : Said) → Begins (Some w.named) (rest q) t → Stands None t) →
-    CallsAfter w channel p.bytes.now p.at (string_bytes p.lines ++ written (opened_line channel)) q.at text
+    Tuned w.kind channel first.receiver → GoingBy w p (string_bytes p.lines) first q s →
+    (text : List ℕ) → text ≡ string_bytes q.lines → NoCall w.named (rest q) →
+    CallsAfter w channel p.bytes.now p.at (string_bytes p.lines) q.at text
 calls_after w p channel first q s tuned i text e stops =
-    let before = string_bytes p.lines ++ written (opened_line channel) in
+    let before = string_bytes p.lines in
     let going = i.going in
     record {
       receiver = first.receiver;
@@ -189,5 +188,24 @@ calls_after w p channel first q s tuned i text e stops =
       wrote = e ∙ going.wrote;
       forward = going.forward;
       within = going.within;
-      stops = subst (λ b. (t : Said) → Begins (Some w.named) (drop q.at b) t → Stands None t) i.same stops;
+      stops = subst (λ b. NoCall w.named (drop q.at b)) i.same stops;
+    }
+
+-- where no call follows, none is left out
+pub no_calls : (w : Weighing) (p : Player) (channel : Channel) (r : Receiver w.C Laying w.S w.P) (m : Memory w.S w.P) →
+    Tuned w.kind channel r → sizes m ≡ needed r.format → NoCall w.named (rest p) → p.at ≤ length p.bytes.now →
+    CallsAfter w channel p.bytes.now p.at (string_bytes p.lines) p.at (string_bytes p.lines)
+no_calls w p channel r m tuned room stops within =
+    let text = string_bytes p.lines in
+    let going = going_begun w p.bytes.now p.at r m text room within in
+    record {
+      receiver = r;
+      memory = m;
+      made = going.so_far;
+      tuned = tuned;
+      follows = going_done w r p.bytes.now p.at m r m p.at text text going;
+      wrote = going.wrote;
+      forward = going.forward;
+      within = going.within;
+      stops = stops;
     }

@@ -56,6 +56,10 @@ abbrev pub Opens : Player → Option (Channel × Kind) → Player → Type 0
 Opens p (Some (channel, kind)) p' = Read channel kind p p'
 Opens p None p' = BeginsNone None (rest p) × (p' ≡ p)
 
+-- what comes next while a channel is open at that kind is no call
+abbrev pub NoCall : Kind → List ℕ → Type 0
+NoCall kind bytes = (s : Said) → Begins (Some kind) bytes s → Stands None s
+
 -- a kind of cost, with its name, its samples and its figures
 abbrev pub weighed : {C S P : Type 0} → cost.Ghosts C S P → Kind → (List ℕ → List S) → (C → List ℕ) → Weighing
 weighed {C} {S} {P} kind named samples figures = record { C = C; S = S; P = P; kind = kind; named = named; samples = samples; figures = figures }
@@ -114,10 +118,14 @@ module _ (w : Weighing) where
     pub wrote : after ≡ before ++ made
     pub forward : start ≤ stop
     pub within : stop ≤ length bytes
-    -- what comes next is no call
-    pub stops : (s : Said) → Begins (Some w.named) (drop stop bytes) s → Stands None s
+    pub stops : NoCall w.named (drop stop bytes)
 
   -- they have been played, and the line of the opening before them
   pub record PlaysCalls (channel : Channel) (p p' : Player) : Type 0 where
     pub same : Same p p'
     pub after : CallsAfter channel p.bytes.now p.at (string_bytes p.lines ++ written (opened_line channel)) p'.at (string_bytes p'.lines)
+
+  -- the same of a player that has written that line already
+  pub record PlaysOn (channel : Channel) (p p' : Player) : Type 0 where
+    pub same : Same p p'
+    pub after : CallsAfter channel p.bytes.now p.at (string_bytes p.lines) p'.at (string_bytes p'.lines)

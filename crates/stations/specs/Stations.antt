@@ -3,10 +3,12 @@ use Rattle.std.specs.Prelude.{◌≡◌, List, replicate, None, vec_items}
 use Rattle.channels.specs.Channels.{Tuned}
 use Rattle.channels.specs.Layings.{laying_line}
 use Rattle.channels.specs.declared.channel.Channel.{Channel}
+use Rattle.channels.specs.declared.laying.Laying.{Laying}
 use Rattle.cost.specs.declared.kind.Cost as cost
 use Rattle.link.specs.Calls.{Memory, sizes, Reply, Hears, Misses, Restarts}
 use Rattle.link.specs.Rules.{needed}
 use Rattle.link.specs.declared.format.Format.{Format}
+use Rattle.link.specs.declared.receiver.Receiver.{Receiver}
 use Rattle.stations.specs.declared.station.Station.{Station}
 
 -- the memory that a station lends to each call
@@ -22,6 +24,11 @@ module _ {C S P : Type 0} (k : cost.Ghosts C S P) where
     paths = replicate (needed f).paths 0;
     block = replicate (needed f).block 0;
   }
+
+  -- that receiver, with as much memory as it asks for, all blank
+  pub record Equipped (r : Receiver C Laying S P) (s : Station C S P) : Type 0 where
+    pub holds : s.receiver ≡ r
+    pub lends : memory s ≡ blank r.format
 
   -- a receiver opened for the channel, with as much memory as it asks for, all blank
   pub record Fresh (channel : Channel) (s : Station C S P) : Type 0 where

@@ -1,8 +1,8 @@
 // A receiver with the memory that its calls are lent.
-ghost use Rattle.std.specs.Prelude.{◌≡◌, IfOk, replicate};
+ghost use Rattle.std.specs.Prelude.{◌≡◌, IfOk, OnOk, length, replicate};
 ghost use Rattle.channels.specs.Layings.{laying_line};
 ghost use Rattle.link.specs.Calls.{Steals};
-ghost use Rattle.stations.specs.Stations.{Fresh, HearsHere, MissesHere, RestartsHere};
+ghost use Rattle.stations.specs.Stations.{Equipped, Fresh, HearsHere, MissesHere, RestartsHere};
 
 use channels::channel::Channel;
 use channels::laying::Laying;
@@ -26,15 +26,42 @@ impl<C: Cost> Station<C> {
     pub fn open(heap: Global, channel: Channel) -> Result<Station<C>, AllocError>
         ensures { IfOk result (λ s. Fresh C.Cost channel s) }
     {
-        let receiver = channel.open::<C>();
-        let needs = receiver.needs();
-        Ok(Station {
+        Station::with(heap, channel.open::<C>())
+    }
+
+    // A station of any receiver, with as much memory as it asks for, all blank.
+    pub fn with(heap: Global, receiver: Receiver<C, Laying>) -> Result<Station<C>, AllocError>
+        ensures { IfOk result (λ s. Equipped C.Cost receiver s) }
+    {
+        let mut station = Station {
             receiver,
-            ring: filled(heap, needs.ring, C::NOTHING)?,
-            costs: filled(heap, needs.costs, None)?,
-            paths: filled(heap, needs.paths, 0)?,
-            block: filled(heap, needs.block, 0)?,
-        })
+            ring: Vec::new(heap),
+            costs: Vec::new(heap),
+            paths: Vec::new(heap),
+            block: Vec::new(heap),
+        };
+        station.blank()?;
+        Ok(station)
+    }
+
+    // Takes another receiver, and gives it the memory that there is; the heap is asked for what that lacks. Where it is not found, what the
+    // memory holds is free, and another receiver may be taken.
+    pub fn take(&mut self, receiver: Receiver<C, Laying>) -> Result<(), AllocError>
+        ensures { OnOk result (Equipped C.Cost receiver self.new) }
+    {
+        self.receiver = receiver;
+        self.blank()
+    }
+
+    // Makes the memory as large as the receiver asks for, all blank.
+    fn blank(&mut self) -> Result<(), AllocError>
+        ensures { OnOk result (Equipped C.Cost self.old.receiver self.new) }
+    {
+        let needs = self.receiver.needs();
+        refill(&mut self.ring, needs.ring, C::NOTHING)?;
+        refill(&mut self.costs, needs.costs, None)?;
+        refill(&mut self.paths, needs.paths, 0)?;
+        refill(&mut self.block, needs.block, 0)
     }
 
     // Each slice is named before it is lent, since the check does not follow a Vec into a field. One body for hear and miss, over an
@@ -105,11 +132,20 @@ impl<C: Cost> Station<C> {
     }
 }
 
-// So many copies of a value. `vec!` makes clones, and a clone at a type parameter may be anything.
-fn filled<T: Copy>(heap: Global, count: usize, value: T) -> Result<Vec<T>, AllocError>
-    ensures { IfOk result (λ v. v.items ≡ replicate count value) }
+// So many copies of a value, in place of what there was.
+fn refill<T: Copy>(items: &mut Vec<T>, count: usize, value: T) -> Result<(), AllocError>
+    ensures { OnOk result (items.new.items ≡ replicate count value) }
 {
-    let mut items = Vec::with_capacity(heap, count)?;
-    items.resize(count, value)?;
-    Ok(items)
+    items.truncate(count);
+    overwrite(items, value);
+    items.resize(count, value)
+}
+
+// A value in each place. `fill` would ask for a clone that cannot fail, and Copy does not promise one.
+fn overwrite<T: Copy>(items: &mut Vec<T>, value: T)
+    ensures { items.new.items ≡ replicate (length items.old.items) value }
+{
+    for item in items.iter_mut() {
+        *item = value;
+    }
 }

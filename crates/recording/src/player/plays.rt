@@ -1,12 +1,16 @@
 // What playing does, from one record of a recording to the next.
-ghost use Rattle.std.specs.Prelude.{◌≡◌, ◌++◌, IfOk, OnOk, string_bytes};
+ghost use Rattle.std.specs.Prelude.{◌≡◌, ◌++◌, false, Some, IfOk, OnOk, string_bytes};
 ghost use Rattle.recording.specs.Kinds.{weighing};
 ghost use Rattle.recording.specs.Lines.{written};
 ghost use Rattle.recording.specs.Made.{text};
-ghost use Rattle.recording.specs.Playing.{weighed, finished, Begun, Comes, Opens, PlaysCalls, Turns};
+ghost use Rattle.recording.specs.Playing.{rest, weighed, finished, Begun, Comes, NoCall, Opens, PlaysCalls, PlaysOn, Turns};
+ghost use Rattle.recording.specs.declared.player.Player.{Player};
 ghost use Rattle.records.specs.Records.{said};
+ghost use Rattle.records.specs.declared.record.Kind.{Kind};
+ghost use Rattle.stations.specs.Stations.{Fresh};
 
 use super::Player;
+use super::latest::Latest;
 use crate::figures::Figured;
 use crate::printed::{Bits, Line};
 use crate::sample::Spelt;
@@ -52,28 +56,83 @@ impl<'a> Player<'a> {
     }
 
     // Plays the calls that follow an opening.
-    pub(crate) fn play_opened(&mut self, channel: Channel, kind: Kind) -> Result<(), AllocError>
+    pub(crate) fn play_opened(
+        &mut self,
+        channel: Channel,
+        kind: Kind,
+        latest: &mut Latest,
+    ) -> Result<(), AllocError>
         ensures { OnOk result (PlaysCalls (weighing kind) channel self.old self.new) }
     {
         match kind {
-            Kind::Count => self.play_calls::<Count>(channel),
-            Kind::Ranked => self.play_calls::<Ranked>(channel),
-            Kind::Float => self.play_calls::<Float>(channel),
+            Kind::Count => self.play_calls::<Count>(channel, &mut latest.count),
+            Kind::Ranked => self.play_calls::<Ranked>(channel, &mut latest.ranked),
+            Kind::Float => self.play_calls::<Float>(channel, &mut latest.float),
         }
     }
 
-    fn play_calls<C: Figured>(&mut self, channel: Channel) -> Result<(), AllocError>
+    fn play_calls<C: Figured>(
+        &mut self,
+        channel: Channel,
+        latest: &mut Option<Station<C>>,
+    ) -> Result<(), AllocError>
     where
         C::Sample: Spelt,
         ensures { OnOk result (PlaysCalls (weighed C.Cost C.Figured.KIND C.Sample.Spelt.spelt C.Figured.figures) channel self.old self.new) }
     {
         put::<C>(&mut self.lines, &Line::Opened(channel))?;
-        let mut station = Station::<C>::open(self.heap, channel)?;
-        while let Some((record, after)) = self.next(Some(C::KIND)) {
-            if !answer(self.heap, &mut station, record, &mut self.lines)? {
+        self.play_on::<C>(channel, latest)
+    }
+
+    // The same once the opening's line is written. Memory is found for a receiver only where a call follows.
+    fn play_on<C: Figured>(
+        &mut self,
+        channel: Channel,
+        latest: &mut Option<Station<C>>,
+    ) -> Result<(), AllocError>
+    where
+        C::Sample: Spelt,
+        ensures { OnOk result (PlaysOn (weighed C.Cost C.Figured.KIND C.Sample.Spelt.spelt C.Figured.figures) channel self.old self.new) }
+    {
+        let receiver = channel.open::<C>();
+        let first = self.next(Some(C::KIND));
+        if !is_call(first) {
+            return Ok(());
+        }
+        match latest {
+            Some(station) => {
+                station.take(receiver)?;
+                self.play_at::<C>(channel, first, station)
+            }
+            None => {
+                let mut station = Station::<C>::with(self.heap, receiver)?;
+                self.play_at::<C>(channel, first, &mut station)?;
+                *latest = Some(station);
+                Ok(())
+            }
+        }
+    }
+
+    // Makes the calls that come next, at a station that has just been opened for the channel; the first has been read.
+    fn play_at<C: Figured>(
+        &mut self,
+        channel: Channel,
+        first: Option<(Record<'a>, usize)>,
+        station: &mut Station<C>,
+    ) -> Result<(), AllocError>
+    where
+        C::Sample: Spelt,
+        requires fresh { Fresh C.Cost channel station.old }
+        requires first { Comes (Some C.Figured.KIND) self.old first }
+        ensures { OnOk result (PlaysOn (weighed C.Cost C.Figured.KIND C.Sample.Spelt.spelt C.Figured.figures) channel self.old self.new) }
+    {
+        let mut comes = first;
+        while let Some((record, after)) = comes {
+            if !answer(self.heap, station, record, &mut self.lines)? {
                 break;
             }
             self.at = after;
+            comes = self.next(Some(C::KIND));
         }
         Ok(())
     }
@@ -94,6 +153,13 @@ impl<'a> Player<'a> {
         }
         Ok(lines)
     }
+}
+
+// Whether a record has been read, and it is a call.
+fn is_call(read: Option<(Record<'_>, usize)>) -> bool
+    ensures { (kind : Kind) (p : Player) → Comes (Some kind) p read.entry → result ≡ false → NoCall kind (rest p) }
+{
+    !matches!(read, None | Some((Record::Open { .. }, _)))
 }
 
 // Makes the call that the record asks for, and writes the line of its answer. An opening is no call, and the answer is false: an enum of
